@@ -1,0 +1,5 @@
+-- Lemmas on feeds.
+mod Reading
+mod Running
+mod Standing
+pub mod Onto

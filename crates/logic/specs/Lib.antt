@@ -1,0 +1,19 @@
+-- The definitions of the logic, each file after those that it rests on.
+pub mod Logic
+pub mod Values
+pub mod Tables
+pub mod Steps
+pub mod Conditions
+pub mod Equations
+pub mod Waits
+pub mod Verdicts
+pub mod Reach
+pub mod Flat
+pub mod Numbers
+pub mod Runs
+pub mod Names
+pub mod Refusals
+pub mod States
+pub mod Draws
+pub mod Histories
+pub mod Examples
