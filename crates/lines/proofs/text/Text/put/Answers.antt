@@ -1,0 +1,7 @@
+-- Bytes that are copied behind a text.
+use borrow.Author.Needs.{needs}
+use Rattle.std.proofs.shelf.Parts.{overwrites}
+use Rattle.lines.proofs.text.Text.put.Needs as need
+
+pub returns : need.returns
+returns c = search (needs, overwrites)
