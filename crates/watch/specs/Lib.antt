@@ -1,0 +1,4 @@
+pub mod Treatments
+pub mod States
+pub mod Fittings
+pub mod Calls
