@@ -7,16 +7,16 @@ use Rattle.truth.specs.Tables.{word}
 use Rattle.truth.proofs.Repeats.{inner_same, outer_pow, outer_same}
 use Rattle.truth.proofs.table.Condition.repeats.Goals as goal
 
-pub bits-repeat-requires : goal.bits-repeat-requires
-bits-repeat-requires c =
-    let low = c.if-w-lt-INNER-WAITS.true in
+pub bits_repeat-requires : goal.bits_repeat-requires
+bits_repeat-requires c =
+    let low = c.if-w-lt-INNER_WAITS.true in
     let power : 2 ^ c.args.w < 64 = pow_below c.args.w 6 low in
     omega (arith, one_shl c.args.w 64 (omega arith))
 
-pub words-repeat-requires : goal.words-repeat-requires
-words-repeat-requires c =
+pub words_repeat-requires : goal.words_repeat-requires
+words_repeat-requires c =
     let w = c.args.w in
-    let high = c.if-w-lt-INNER-WAITS.false in
+    let high = c.if-w-lt-INNER_WAITS.false in
     let few = c.requires.0 in
     let room = c.requires.1.0 in
     let shift = one_shl (w - 6) 64 (omega arith) in
@@ -24,23 +24,23 @@ words-repeat-requires c =
     let double = two-pow-succ w in
     omega arith
 
-pub returns-then-w-lt-INNER-WAITS : goal.returns-then-w-lt-INNER-WAITS
-returns-then-w-lt-INNER-WAITS c e =
+pub returns-then-w-lt-INNER_WAITS : goal.returns-then-w-lt-INNER_WAITS
+returns-then-w-lt-INNER_WAITS c e =
     let s = c.args.self.now in
     let w = c.args.w in
     let from = c.args.from in
-    let low = c.if-w-lt-INNER-WAITS.true in
+    let low = c.if-w-lt-INNER_WAITS.true in
     let shift = one_shl w 64 (omega arith) in
     let x = word s (from / 64) / 2 ^ (from % 64) in
     inner_same s w from c.requires.1.1 low
-    (λ k l. c.bits-repeat.ensures e k (omega arith) ∙ ap (λ n. bit x (n + k)) shift)
+    (λ k l. c.bits_repeat.ensures e k (omega arith) ∙ ap (λ n. bit x (n + k)) shift)
 
-pub returns-else-w-lt-INNER-WAITS : goal.returns-else-w-lt-INNER-WAITS
-returns-else-w-lt-INNER-WAITS c e =
+pub returns-else-w-lt-INNER_WAITS : goal.returns-else-w-lt-INNER_WAITS
+returns-else-w-lt-INNER_WAITS c e =
     let s = c.args.self.now in
     let w = c.args.w in
     let from = c.args.from in
     let few = c.requires.0 in
     let shift = one_shl (w - 6) 64 (omega arith) in
-    outer_same s w from c.requires.1.1 c.if-w-lt-INNER-WAITS.false
-    (λ k l. c.words-repeat.ensures e k (omega arith) ∙ ap (λ n. word s (from / 64 + n + k)) shift)
+    outer_same s w from c.requires.1.1 c.if-w-lt-INNER_WAITS.false
+    (λ k l. c.words_repeat.ensures e k (omega arith) ∙ ap (λ n. word s (from / 64 + n + k)) shift)

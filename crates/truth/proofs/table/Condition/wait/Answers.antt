@@ -11,11 +11,11 @@ loop-i-preserved c =
       simp length-set long,
       below_more _ _
           (λ k h. let ne : k ≢ c.loop-i.i = omega arith in rw get_or-set_other (c.loop-i.invariant.1 k h))
-          (let lt : c.loop-i.i < length c.loop-i.words = omega arith in rw get_or-set_same c.wait-word.ensures),
+          (let lt : c.loop-i.i < length c.loop-i.words = omega arith in rw get_or-set_same c.wait_word.ensures),
     )
 
-pub invariant-of-result : goal.invariant-of-result
-invariant-of-result c = (c.loop-i.invariant.0, ((λ i l. rw (c.loop-i.invariant.1 i (omega arith)) (packed_lt _ 64)), tt))
+pub invariant_of-result : goal.invariant_of-result
+invariant_of-result c = record { long = c.loop-i.invariant.0; fit = λ i l. rw (c.loop-i.invariant.1 i (omega arith)) (packed_lt _ 64) }
 
 pub returns : goal.returns
 returns c = is_made _ _ _ (λ k l. c.loop-i.invariant.1 k (omega arith))
