@@ -14,6 +14,6 @@ returns c =
     let old = pattern_left c.args.self.now in
     record {
       answer = good;
-      left = pattern_made s r c.copy-from-slice.new.self ws _ n c.copy-from-slice.ensures.after (omega arith) ∙ ap (λ a. taken a (pattern_entries s r ws n) old) good;
+      left = pattern_made s r c.copy_from_slice.new.self ws _ n c.copy_from_slice.ensures.after (omega arith) ∙ ap (λ a. taken a (pattern_entries s r ws n) old) good;
       kept = tt;
     }

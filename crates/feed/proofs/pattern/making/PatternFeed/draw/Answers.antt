@@ -4,8 +4,8 @@ use Rattle.feed.specs.Lists.{first, others}
 use Rattle.feed.proofs.Running.{pattern_more, div_grows}
 use Rattle.feed.proofs.pattern.making.PatternFeed.draw.Goals as goal
 
-pub overflow-add-sample : goal.overflow-add-sample
-overflow-add-sample c =
+pub overflow_add-sample : goal.overflow_add-sample
+overflow_add-sample c =
     let p = c.args.self.now in
     let h : p.next / p.per ≤ (p.count - 1) / p.per = div_grows p.next (p.count - 1) p.per p.steps (omega arith) in
     let k = p.last (omega arith) in

@@ -13,7 +13,7 @@ returns-in-len6-up c =
     let long : 6 ≤ length xs = search rules in
     let e = read_more s.place xs long in
     record {
-      gives = simp c.record-content-content.ensures (sym (ap first e));
+      gives = simp c.record_content-content.ensures (sym (ap first e));
       leaves = ap (entries_from (s.place + 1)) (take_rest xs 6) ∙ sym (ap others e);
       keeps = refl;
     }
