@@ -20,7 +20,7 @@ returns g c =
     let ls = c.args.letters.now in
     let gap = c.args.gap in
     let S = c.args.shelf.now in
-    let first : c.is-none.result ≡ is_first gap = first_is gap c.is-none.result c.is-none.ensures in
-    let kept-is = c.keep.ensures ∙ ap (λ n. onto (take n S ++ kept k c.is-none.result n S) S) c.components.ensures.value
+    let first : c.is_none.result ≡ is_first gap = first_is gap c.is_none.result c.is_none.ensures in
+    let kept-is = c.keep.ensures ∙ ap (λ n. onto (take n S ++ kept k c.is_none.result n S) S) c.components.ensures.value
     ∙ ap (λ b. onto (take (components rs) S ++ kept k b (components rs) S) S) first in
     c.fill.ensures ∙ ap (λ X. onto (newest k rs ls gap (drop (components rs) X)) X) kept-is ∙ step_made k rs ls gap S c.args.rule.now.sound c.requires

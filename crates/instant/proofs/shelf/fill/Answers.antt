@@ -18,7 +18,7 @@ loop-j-preserved g c =
     let j = c.loop-j.j in
     let bs = drop (components rs) S in
     let l : j < length rs = omega arith in
-    c.fill-row.ensures
+    c.fill_row.ensures
     ∙ ap (λ X. onto (take (first_component rs j) X ++ row k rs ls gap (take (first_component rs j) X) (drop (components rs) X) (get_or rs j True)) X) c.loop-j.invariant
     ∙ rows_more k rs ls gap S j c.args.rule.now.sound l c.requires (front k rs ls gap bs j) (length_front k rs ls gap bs j (omega arith))
     ∙ ap (λ V. onto V S) (sym (front_more k rs ls gap bs j l))

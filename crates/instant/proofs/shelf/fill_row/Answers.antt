@@ -16,7 +16,7 @@ loop-s-init g c =
     let rs = records c.args.rule.now in
     let room = first_room rs c.args.j c.requires.within in
     let wide = c.shifts-s-end.ensures.value ∙ ap shifts c.record-record.ensures in
-    (omega (arith, c.first-component-first.ensures.value), c.shifts-s-end.ensures.bound, onto_part c.args.shelf.now (first_component rs c.args.j) (omega arith))
+    (omega (arith, c.first_component-first.ensures.value), c.shifts-s-end.ensures.bound, onto_part c.args.shelf.now (first_component rs c.args.j) (omega arith))
 
 pub loop-s-preserved : goal.loop-s-preserved
 loop-s-preserved g c =
@@ -28,11 +28,11 @@ loop-s-preserved g c =
     let S = c.args.shelf.now in
     let j = c.args.j in
     let s = c.loop-s.s in
-    let first = c.first-component-first.ensures.value in
+    let first = c.first_component-first.ensures.value in
     let wide : s < shifts (get_or rs j True) = omega (arith, c.shifts-s-end.ensures.value ∙ ap shifts c.record-record.ensures) in
     let R = c.loop-s.shelf in
-    let is : c.value-of-v.result ≡ value_at k rs ls gap S j sound c.requires.within c.requires.room s =
-    c.value-of-v.ensures
+    let is : c.value_of-v.result ≡ value_at k rs ls gap S j sound c.requires.within c.requires.room s =
+    c.value_of-v.ensures
     ∙ ap (λ X. valued k rs ls gap X (drop (components rs) X) (get_or rs j True) (first_component rs j) s) c.loop-s.invariant.2
     ∙ row_value k rs ls gap S j sound c.requires.within c.requires.room s wide in (
       c.loop-s.invariant.0,

@@ -9,16 +9,16 @@ use Rattle.logic.specs.Draws.{filled}
 use Rattle.watch.proofs.Filling.{values_more, becomes_more}
 use Rattle.watch.proofs.fill.fill.Goals as goal
 
-pub slice-bounds-fill-row-end : goal.slice-bounds-fill-row-end
-slice-bounds-fill-row-end c =
+pub slice_bounds-fill_row-end : goal.slice_bounds-fill_row-end
+slice_bounds-fill_row-end c =
     let rs = records c.args.rule.now in
-    let h : c.first-wait-known.result ≤ length c.loop-j.becomes = omega (arith, c.first-wait-known.ensures.value, sum_by-take-le own_waits rs c.loop-j.j, c.requires.becomes, c.loop-j.invariant.1) in
+    let h : c.first_wait-known.result ≤ length c.loop-j.becomes = omega (arith, c.first_wait-known.ensures.value, sum_by-take-le own_waits rs c.loop-j.j, c.requires.becomes, c.loop-j.invariant.1) in
     search rules
 
-pub slice-bounds-renew-row-end : goal.slice-bounds-renew-row-end
-slice-bounds-renew-row-end c =
+pub slice_bounds-renew_row-end : goal.slice_bounds-renew_row-end
+slice_bounds-renew_row-end c =
     let rs = records c.args.rule.now in
-    let h : c.first-component-filled.result ≤ length c.fill-row.new.values = omega (arith, c.first-component-filled.ensures.value, first_le rs (c.loop-j.j + 1), c.requires.values, c.loop-j.invariant.0) in
+    let h : c.first_component-filled.result ≤ length c.fill_row.new.values = omega (arith, c.first_component-filled.ensures.value, first_le rs (c.loop-j.j + 1), c.requires.values, c.loop-j.invariant.0) in
     search rules
 
 pub loop-j-preserved : goal.loop-j-preserved
@@ -32,17 +32,17 @@ loop-j-preserved c =
     let j = c.loop-j.j in
     let lt : j < length rs = omega (arith, c.len-j-end.ensures.value) in
     let next : suc j ≡ j + 1 = omega arith in
-    let known : c.first-wait-known.result - 0 ≡ first_wait rs j = omega (arith, c.first-wait-known.ensures.value) in
-    let full : c.first-component-filled.result - 0 ≡ first_component rs (suc j) = omega (arith, c.first-component-filled.ensures.value ∙ ap (first_component rs) (sym next)) in
+    let known : c.first_wait-known.result - 0 ≡ first_wait rs j = omega (arith, c.first_wait-known.ensures.value) in
+    let full : c.first_component-filled.result - 0 ≡ first_component rs (suc j) = omega (arith, c.first_component-filled.ensures.value ∙ ap (first_component rs) (sym next)) in
     let R = c.loop-j.values in
     let Q = c.loop-j.becomes in
     let r = c.loop-j.invariant.2 in
     let q = c.loop-j.invariant.3 in
-    let R' = c.fill-row.new.values in
-    let x = values_more rs w gap before S W j lt R Q r q R' (c.first-wait-known.result - 0) known c.fill-row.ensures in
-    let y = becomes_more rs w gap before S W j lt R Q r q R' c.renew-row.new.becomes (c.first-component-filled.result - 0) full x c.renew-row.ensures in (
-      omega (arith, c.fill-row.auto.values, c.loop-j.invariant.0),
-      omega (arith, c.renew-row.auto.becomes, c.loop-j.invariant.1),
+    let R' = c.fill_row.new.values in
+    let x = values_more rs w gap before S W j lt R Q r q R' (c.first_wait-known.result - 0) known c.fill_row.ensures in
+    let y = becomes_more rs w gap before S W j lt R Q r q R' c.renew_row.new.becomes (c.first_component-filled.result - 0) full x c.renew_row.ensures in (
+      omega (arith, c.fill_row.auto.values, c.loop-j.invariant.0),
+      omega (arith, c.renew_row.auto.becomes, c.loop-j.invariant.1),
       x ∙ ap (λ n. onto (filled rs w gap before n).values S) next,
       y ∙ ap (λ n. onto (filled rs w gap before n).becomes W) next,
     )

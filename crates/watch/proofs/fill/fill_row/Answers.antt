@@ -15,7 +15,7 @@ loop-s-init c =
     let rs = records c.args.rule.now in
     let room = first_room rs c.args.j c.requires.within in
     let wide = c.shifts-s-end.ensures.value ∙ ap shifts c.record-record.ensures in
-    (refl, omega (arith, c.first-component-first.ensures.value, c.requires.room), c.shifts-s-end.ensures.bound, onto_part c.args.values.now (first_component rs c.args.j) (omega (arith, c.requires.room)))
+    (refl, omega (arith, c.first_component-first.ensures.value, c.requires.room), c.shifts-s-end.ensures.bound, onto_part c.args.values.now (first_component rs c.args.j) (omega (arith, c.requires.room)))
 
 pub loop-s-preserved : goal.loop-s-preserved
 loop-s-preserved c =
@@ -24,10 +24,10 @@ loop-s-preserved c =
     let R = c.loop-s.values in
     let s = c.loop-s.s in
     let n = first_component rs c.args.j in
-    let first = c.first-component-first.ensures.value in
+    let first = c.first_component-first.ensures.value in
     let f : ℕ → Condition = conditioned rs c.args.arrival.now.sample.letters c.args.arrival.now.gap c.args.before.now (take (first_component rs c.args.j) c.args.values.now) c.args.becomes.now c.args.j in
-    let whole : c.first-component-first.result - 0 ≡ n = omega (arith, first) in
-    let is : c.condition-of-value.result ≡ f s = c.condition-of-value.ensures ∙ ap (λ X. conditioned rs c.args.arrival.now.sample.letters c.args.arrival.now.gap c.args.before.now X c.args.becomes.now c.args.j s) (ap₂ take whole c.loop-s.invariant.3 ∙ partly_before S n f s (omega (arith, c.requires.room, c.loop-s.invariant.1))) in (
+    let whole : c.first_component-first.result - 0 ≡ n = omega (arith, first) in
+    let is : c.condition_of-value.result ≡ f s = c.condition_of-value.ensures ∙ ap (λ X. conditioned rs c.args.arrival.now.sample.letters c.args.arrival.now.gap c.args.before.now X c.args.becomes.now c.args.j s) (ap₂ take whole c.loop-s.invariant.3 ∙ partly_before S n f s (omega (arith, c.requires.room, c.loop-s.invariant.1))) in (
       simp length-set c.loop-s.invariant.0,
       c.loop-s.invariant.1,
       c.loop-s.invariant.2,

@@ -16,8 +16,8 @@ pub loop-s-init : goal.loop-s-init
 loop-s-init c =
     let rs = records c.args.rule.now in
     let room = numbers_room own_waits rs c.args.j c.requires.within in
-    let wide = c.own-waits-s-end.ensures.value ∙ ap own_waits c.record-record.ensures in
-    (refl, omega (arith, c.first-wait-first.ensures.value, c.requires.room), c.own-waits-s-end.ensures.bound, onto_part c.args.becomes.now (first_wait rs c.args.j) (omega (arith, c.requires.room)))
+    let wide = c.own_waits-s-end.ensures.value ∙ ap own_waits c.record-record.ensures in
+    (refl, omega (arith, c.first_wait-first.ensures.value, c.requires.room), c.own_waits-s-end.ensures.bound, onto_part c.args.becomes.now (first_wait rs c.args.j) (omega (arith, c.requires.room)))
 
 pub loop-s-preserved : goal.loop-s-preserved
 loop-s-preserved c =
@@ -26,9 +26,9 @@ loop-s-preserved c =
     let R = c.loop-s.becomes in
     let s = c.loop-s.s in
     let n = first_wait rs c.args.j in
-    let first = c.first-wait-first.ensures.value in
+    let first = c.first_wait-first.ensures.value in
     let f : ℕ → Condition = renewed openly (row rs c.args.j) c.args.arrival.now.gap (λ a s. among c.args.values.now (first_component rs a + s)) c.args.j in
-    let is : c.renewed-at-value.result ≡ f s = c.renewed-at-value.ensures in (
+    let is : c.renewed_at-value.result ≡ f s = c.renewed_at-value.ensures in (
       simp length-set c.loop-s.invariant.0,
       c.loop-s.invariant.1,
       c.loop-s.invariant.2,
@@ -41,5 +41,5 @@ pub returns : goal.returns
 returns c =
     let rs = records c.args.rule.now in
     let f : ℕ → Condition = renewed openly (row rs c.args.j) c.args.arrival.now.gap (λ a s. among c.args.values.now (first_component rs a + s)) c.args.j in
-    let end : c.loop-s.s ≡ own_waits (row rs c.args.j) = omega (arith, c.own-waits-s-end.ensures.value ∙ ap own_waits c.record-record.ensures) in
+    let end : c.loop-s.s ≡ own_waits (row rs c.args.j) = omega (arith, c.own_waits-s-end.ensures.value ∙ ap own_waits c.record-record.ensures) in
     c.loop-s.invariant.3 ∙ ap (partly c.args.becomes.now (first_wait rs c.args.j) f) end

@@ -28,12 +28,12 @@ returns c =
     let S = c.args.shelf.now in
     let t = c.args.sample.stamp in
     let r = c.step.result in
-    let e = c.letters-of-letters.ensures in
-    let was = c.in-ok-step.was in
+    let e = c.letters_of-letters.ensures in
+    let was = c.in_ok-step.was in
     let ok : is_ok r ≡ true = ap is_ok was in
     let some : 0 < length rs = omega (arith, length-take-le w.rule.len w.rule.table (omega arith)) in
     record {
-      answer = answer_with _ r c.in-ok-step.field-0 c.step.new.place _
+      answer = answer_with _ r c.in_ok-step.field-0 c.step.new.place _
           (c.step.ensures.answer ∙ ap (λ (ls : List Bool). step_answer (components rs) w.newest t (length ls) (length S)) e) was
           (good (is_ok r) _ _ _ ok c.step.ensures.place ∙ ap (λ ls. ruled plainly rs (values plainly rs w.newest t ls S)) e);
       shelf = good (is_ok r) _ _ _ ok c.step.ensures.shelf ∙ ap (λ ls. shelf_after plainly rs w.newest t ls S) e;

@@ -10,7 +10,7 @@ use Rattle.instant.proofs.watch.InstantWatch.step.Goals as goal
 pub advance-requires : goal.advance-requires
 advance-requires g c =
     let w = c.args.self.now in
-    good_room (components (records w.rule)) w.newest c.args.stamp (length c.args.letters.now) (length c.args.shelf.now) (sym c.in-ok-ask.ensures)
+    good_room (components (records w.rule)) w.newest c.args.stamp (length c.args.letters.now) (length c.args.shelf.now) (sym c.in_ok-ask.ensures)
 
 pub returns : goal.returns
 returns g c =
@@ -22,18 +22,18 @@ returns g c =
     let S = c.args.shelf.now in
     let R = c.advance.new.shelf in
     let t = c.args.stamp in
-    let ok = sym c.in-ok-ask.ensures in
+    let ok = sym c.in_ok-ask.ensures in
     let room = good_room (components rs) w.newest t (length ls) (length S) ok in
     let some : 0 < length rs = omega (arith, length-take-le w.rule.len w.rule.table (omega arith)) in
-    let after = c.advance.ensures ∙ ap (λ gap. advanced k rs gap ls S) c.gap-to-gap.ensures in
+    let after = c.advance.ensures ∙ ap (λ gap. advanced k rs gap ls S) c.gap_to-gap.ensures in
     record {
-      answer = c.in-ok-ask.ensures;
+      answer = c.in_ok-ask.ensures;
       shelf = after;
-      place = c.last-value.ensures ∙ ap (ruled k rs) c.advance.ensures ∙ ruled_after k rs c.gap-to-gap.result ls S some room
-          ∙ ap (λ gap. ruled k rs (values_at k rs gap ls S)) c.gap-to-gap.ensures;
+      place = c.last_value.ensures ∙ ap (ruled k rs) c.advance.ensures ∙ ruled_after k rs c.gap_to-gap.result ls S some room
+          ∙ ap (λ gap. ruled k rs (values_at k rs gap ls S)) c.gap_to-gap.ensures;
       newest = refl;
       rule = refl;
       runs = λ ps run e. run_more k laws rs w.rule.sound w.past some w.newest t ls S R ok after ps run;
       witnessed = λ ps run e. more_witnessed k laws rs w.rule.sound w.past some w.newest t ls S R ok after ps run;
-      judged = λ ps run e. more_judged k laws rs w.rule.sound w.past some w.newest t ls S R ok after ps run c.last-value.result c.last-value.ensures;
+      judged = λ ps run e. more_judged k laws rs w.rule.sound w.past some w.newest t ls S R ok after ps run c.last_value.result c.last_value.ensures;
     }

@@ -7,8 +7,8 @@ use Rattle.lines.proofs.Decimals.{decimal_one, decimal_more, length_decimal_one,
 use Rattle.lines.proofs.text.Text.+put_decimal.Goals as goal
 use Rattle.lines.proofs.text.Text.+put_decimal.Goals.{then-n-ge10, else-n-ge10}
 
-pub put-decimal-requires : goal.put-decimal-requires
-put-decimal-requires t c =
+pub put_decimal-requires : goal.put_decimal-requires
+put_decimal-requires t c =
     let longer = length_decimal_more c.args.n c.if-n-ge10.true in
     let less = c.decreases in
     (omega arith, omega arith)

@@ -8,7 +8,7 @@ use Rattle.lines.proofs.text.Text.put_labelled.Goals as goal
 pub returns : goal.returns
 returns c =
     record {
-      text = c.put-number.ensures.text ∙ ap (λ x. x ++ decimal c.args.n) c.put.ensures.text
+      text = c.put_number.ensures.text ∙ ap (λ x. x ++ decimal c.args.n) c.put.ensures.text
           ∙ append_assoc (content c.args.self.now) c.args.label.now (decimal c.args.n);
       len = omega arith;
     }

@@ -6,13 +6,13 @@ use Rattle.logic.specs.Draws.{found}
 use Rattle.watch.proofs.Lookups.{found_at}
 use Rattle.watch.proofs.treatment.Treatment.find.Goals as goal
 
-pub returns-then-are-alike : goal.returns-then-are-alike
-returns-then-are-alike c =
+pub returns-then-are_alike : goal.returns-then-are_alike
+returns-then-are_alike c =
     let s = c.args.self.now in
     let d = c.index-self-i.result in
     let rest = found c.args.condition.now (drop (c.loop-i.i + 1) (take s.count s.held)) in
     sym (sym c.loop-i.invariant ∙ found_at c.args.condition.now s.held s.count c.loop-i.i d (omega arith) (omega arith)
-    ∙ ap (λ b. cond b (Some (get_or s.held c.loop-i.i d).point) rest) (sym c.if-are-alike.ensures))
+    ∙ ap (λ b. cond b (Some (get_or s.held c.loop-i.i d).point) rest) (sym c.if-are_alike.ensures))
 
 pub loop-i-preserved : goal.loop-i-preserved
 loop-i-preserved c =
@@ -20,7 +20,7 @@ loop-i-preserved c =
     let d = c.index-self-i.result in
     let rest = found c.args.condition.now (drop (c.loop-i.i + 1) (take s.count s.held)) in
     sym (found_at c.args.condition.now s.held s.count c.loop-i.i d (omega arith) (omega arith)
-    ∙ ap (λ b. cond b (Some (get_or s.held c.loop-i.i d).point) rest) (sym c.if-are-alike.ensures))
+    ∙ ap (λ b. cond b (Some (get_or s.held c.loop-i.i d).point) rest) (sym c.if-are_alike.ensures))
     ∙ c.loop-i.invariant
 
 pub returns : goal.returns

@@ -20,5 +20,5 @@ returns c =
     ap₂ made
     (ap (take (components rs)) c.fill.ensures.values ∙ values_front rs a.sample.letters a.gap b _)
     (ap (take (waits rs)) c.fill.ensures.becomes ∙ becomes_front rs a.sample.letters a.gap b _)
-    ∙ ap₂ (λ x g. full x g b) c.new-arrival.ensures.sample (c.new-arrival.ensures.gap ∙ c.gap-from.ensures)
+    ∙ ap₂ (λ x g. full x g b) c.new-arrival.ensures.sample (c.new-arrival.ensures.gap ∙ c.gap_from.ensures)
     ∙ ap (full s (gap_from w.newest s.stamp)) c.before-2.ensures

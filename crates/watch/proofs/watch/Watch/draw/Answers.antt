@@ -14,17 +14,17 @@ returns g c =
     let st = state w in
     let es = g.F.Feed.entries c.args.feed.now in
     let tray = length c.args.tray.now in
-    let st' = state c.draw-one.new.self in
-    let es' = g.F.Feed.entries c.draw-one.new.feed in
+    let st' = state c.draw_one.new.self in
+    let es' = g.F.Feed.entries c.draw_one.new.feed in
     let some : 0 < length rs = omega (arith, length-take-le w.rule.len w.rule.table (omega arith)) in
     record {
-      answer = c.draw-one.ensures.answer;
-      state = c.draw-one.ensures.state;
-      entries = c.draw-one.ensures.entries;
-      height = c.draw-one.ensures.height;
-      reached = λ start log lines r. reached_more rs w.slots start st st' es es' tray log lines c.draw-one.ensures.state c.draw-one.ensures.entries r;
+      answer = c.draw_one.ensures.answer;
+      state = c.draw_one.ensures.state;
+      entries = c.draw_one.ensures.entries;
+      height = c.draw_one.ensures.height;
+      reached = λ start log lines r. reached_more rs w.slots start st st' es es' tray log lines c.draw_one.ensures.state c.draw_one.ensures.entries r;
       promise = λ start log lines r.
           histories_kept rs w.slots start w.rule.sound w.few_waits some st' es' (log_after st es tray log) (lines_after st es tray lines)
-          (reached_more rs w.slots start st st' es es' tray log lines c.draw-one.ensures.state c.draw-one.ensures.entries r);
-      tray = c.draw-one.ensures.tray;
+          (reached_more rs w.slots start st st' es es' tray log lines c.draw_one.ensures.state c.draw_one.ensures.entries r);
+      tray = c.draw_one.ensures.tray;
     }

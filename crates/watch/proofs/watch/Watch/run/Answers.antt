@@ -21,14 +21,14 @@ returns-in-Ok g c =
     let u = c.in-Ok.field-0 in
     let fine = sym c.in-Ok.is ∙ c.fit.ensures.answer in
     let fitting = c.fit.ensures.state in
-    let count = c.make-calls.ensures.count in
+    let count = c.make_calls.ensures.count in
     let whole = good_played x slots old st es u (take n calls) fine fitting in
     let some : 0 < length (records w.rule) = omega (arith, length-take-le w.rule.len w.rule.table (omega arith)) in
     record {
-      answer = good_run x slots old st es u c.make-calls.result fine ∙ ap (λ k. run_answer x k) count;
-      state = c.make-calls.ensures.state ∙ ap (λ k. (stages (stage_at st es) (take k calls)).state) count ∙ ap (λ (p : Played). p.state) whole;
-      entries = c.make-calls.ensures.entries ∙ ap (λ k. (stages (stage_at st es) (take k calls)).rest) count ∙ ap (λ (p : Played). p.rest) whole;
-      answers = c.make-calls.ensures.answers ∙ ap (λ k. onto (stages (stage_at st es) (take k calls)).answers S) count ∙ ap (λ (p : Played). onto p.answers S) whole;
+      answer = good_run x slots old st es u c.make_calls.result fine ∙ ap (λ k. run_answer x k) count;
+      state = c.make_calls.ensures.state ∙ ap (λ k. (stages (stage_at st es) (take k calls)).state) count ∙ ap (λ (p : Played). p.state) whole;
+      entries = c.make_calls.ensures.entries ∙ ap (λ k. (stages (stage_at st es) (take k calls)).rest) count ∙ ap (λ (p : Played). p.rest) whole;
+      answers = c.make_calls.ensures.answers ∙ ap (λ k. onto (stages (stage_at st es) (take k calls)).answers S) count ∙ ap (λ (p : Played). onto p.answers S) whole;
       promise = λ rs e k. kept_stages rs (records w.rule) slots es (fitted_table x slots old st es rs e fitting) w.rule.sound w.few_waits some (take k calls);
     }
 

@@ -17,7 +17,7 @@ returns-in-Some c =
     let s = c.args.sample in
     let place = c.args.place in
     let fits = was_some (ltb (next_offset st.newest s.stamp) most_offsets) _ _ c.in-Some.ensures in
-    let in-time : false ≡ late st.newest s.stamp = c.if-is-late.ensures in
+    let in-time : false ≡ late st.newest s.stamp = c.if-is_late.ensures in
     let whole : (es : List Entry) → sampled st es place s ≡ drawn_content st es place (content.Sample s) = λ es.
     ap₂ (λ l f. cond l (turned_away st es (Stamp place)) (cond f (sampled st es place s) (turned_away st es (Crowded place)))) in-time (sym fits) in
     record {
