@@ -79,7 +79,8 @@ def antt(text, names, keep):
     out = []
     for line in text.splitlines(keepends=True):
         code, dash, note = (line, "", "") if not re.search(r"(^|\s)--(\s|$)", line) else re.split(r"((?:^|(?<=\s))--(?=\s|$))", line, maxsplit=1)
-        out.append(respelled(code, names, keep) + dash + by_backticks(note, names))
+        parts = re.split(r'("[^"\n]*")', code)
+        out.append("".join(p if p.startswith('"') else respelled(p, names, keep) for p in parts) + dash + by_backticks(note, names))
     return "".join(out)
 
 

@@ -28,4 +28,4 @@ refused_text place number = labelled (codes "entry ") place ++ labelled (codes "
 abbrev pub counts_text : Counts → List ℕ
 counts_text c =
     labelled (codes "drawn ") c.drawn ++ labelled (codes " accepted ") c.accepted
-    ++ labelled (codes " turned_away ") c.turned_away ++ labelled (codes " held ") c.held
+    ++ labelled (codes " turned-away ") c.turned_away ++ labelled (codes " held ") c.held
