@@ -8,8 +8,8 @@ use Rattle.printing.proofs.putting.put_lines.Goals as goal
 
 pub loop-line-preserved : goal.loop-line-preserved
 loop-line-preserved c =
-    lines_more c.args.lines.now c.loop-line.line-index _ (omega arith) (vec_items c.loop-line.out) (vec_items c.put-report.new.out) (vec_items c.args.out.now)
-    c.loop-line.invariant c.in-ok-put-report.ensures
+    lines_more c.args.lines.now c.loop-line.line-index _ (omega arith) (vec_items c.loop-line.out) (vec_items c.put_report.new.out) (vec_items c.args.out.now)
+    c.loop-line.invariant c.in_ok-put_report.ensures
 
 pub returns : goal.returns
 returns c =

@@ -8,7 +8,7 @@ pub returns : goal.returns
 returns c =
     let old = vec_items c.args.out.now in
     let line = line_bytes c.args.report in
-    let r = c.extend-from-slice.result in
-    put_cases r (vec_items c.extend-from-slice.new.self) (old ++ line) old
-    (c.extend-from-slice.ensures.items
-    ∙ ap (λ z. cond (is_ok r) (old ++ z) old) (front_is line _ c.write-report-len.new.tray c.write-report-len.result c.write-report-len.ensures.tray c.write-report-len.ensures.answer))
+    let r = c.extend_from_slice.result in
+    put_cases r (vec_items c.extend_from_slice.new.self) (old ++ line) old
+    (c.extend_from_slice.ensures.items
+    ∙ ap (λ z. cond (is_ok r) (old ++ z) old) (front_is line _ c.write_report-len.new.tray c.write_report-len.result c.write_report-len.ensures.tray c.write_report-len.ensures.answer))

@@ -8,9 +8,9 @@ pub returns-in-Sample : goal.returns-in-Sample
 returns-in-Sample c =
     let s = c.args.self.now in
     record {
-      report = c.judge-sample.ensures.report
+      report = c.judge_sample.ensures.report
           ∙ sym (ap (λ (x : Content). content_report (records s.watch.rule) s.watch.newest s.shelf s.offset c.args.entry.place x) c.in-Sample.is);
-      rule = c.judge-sample.ensures.rule;
-      accepted = c.judge-sample.ensures.accepted;
-      turned = c.judge-sample.ensures.turned;
+      rule = c.judge_sample.ensures.rule;
+      accepted = c.judge_sample.ensures.accepted;
+      turned = c.judge_sample.ensures.turned;
     }
