@@ -7,20 +7,20 @@ use Rattle.watch.specs.States.{state}
 use Rattle.printing.proofs.Beginning.{after_none, card_print, long_print, none_drawn, refused_print}
 use Rattle.printing.proofs.Telling.{all_told, card_few}
 use Rattle.printing.proofs.card.print_card.Goals as goal
-use Rattle.printing.proofs.card.print_card.Goals.{in-Err+in-ok-put-report, in-Ok+in-ok-put-report-2, in-Ok-2+in-ok-put-card}
+use Rattle.printing.proofs.card.print_card.Goals.{in-Err+in_ok-put_report-in-Err, in-Ok+in_ok-put_report-in-Ok, in-Ok-2+in_ok-put_card-in-Ok-2}
 
-pub put-card-requires : goal.put-card-requires
-put-card-requires c =
+pub put_card-requires : goal.put_card-requires
+put_card-requires c =
     let x = asked (watch_questions 128) (read_table c.args.rule.now) in
     let none = none_drawn x c.in-Ok-2.field-0 (state c.fit.new.self) (state c.new-watch.result) c.in-Ok-2.ensures.answer c.in-Ok-2.ensures.state in
-    let few = card_few c.args.card.now c.if-card-gt-MOST-CARD-BYTES.false in
+    let few = card_few c.args.card.now c.if-card-gt-MOST_CARD_BYTES.false in
     omega arith
 
-pub returns-in-err-put-card : goal.returns-in-err-put-card
-returns-in-err-put-card c =
+pub returns-in_err-put_card-in-Ok-2 : goal.returns-in_err-put_card-in-Ok-2
+returns-in_err-put_card-in-Ok-2 c =
     let x = asked (watch_questions 128) (read_table c.args.rule.now) in
     record {
-      text = IfOk-from_err c.from-residual-in-err-put-card.result _ c.from-residual-in-err-put-card.ensures.0;
+      text = IfOk-from_err c.from_residual-in_err-put_card-in-Ok-2.result _ c.from_residual-in_err-put_card-in-Ok-2.ensures.0;
       promise = λ rs e h. all_told x c.args.card.now rs (tables_sound 128 c.args.rule.now rs e) e h;
     }
 
@@ -30,15 +30,15 @@ returns c =
     let card = c.args.card.now in
     record {
       text = elim c.match-fit.branch [
-        | in-Err+in-ok-put-report w ↦
+        | in-Err+in_ok-put_report-in-Err w ↦
             refused_print x card w.in-Err.refusal w.number.result (vec_items c.match-fit.out) w.in-Err.ensures.answer w.number.ensures
-            (ap vec_items w.out-is ∙ w.in-ok-put-report.ensures ∙ after_none c.new-out.ensures.items)
-        | in-Ok+in-ok-put-report-2 w ↦
-            long_print x card w.in-Ok.field-0 (vec_items c.match-fit.out) w.in-Ok.ensures.answer w.if-card-gt-MOST-CARD-BYTES.true
-            (ap vec_items w.out-is ∙ w.in-ok-put-report-2.ensures ∙ after_none c.new-out.ensures.items)
-        | in-Ok-2+in-ok-put-card w ↦
+            (ap vec_items w.out-is ∙ w.in_ok-put_report-in-Err.ensures ∙ after_none c.new-out.ensures.items)
+        | in-Ok+in_ok-put_report-in-Ok w ↦
+            long_print x card w.in-Ok.field-0 (vec_items c.match-fit.out) w.in-Ok.ensures.answer w.if-card-gt-MOST_CARD_BYTES.true
+            (ap vec_items w.out-is ∙ w.in_ok-put_report-in-Ok.ensures ∙ after_none c.new-out.ensures.items)
+        | in-Ok-2+in_ok-put_card-in-Ok-2 w ↦
             card_print x card w.in-Ok-2.field-0 (state c.fit.new.self) (state c.new-watch.result) (vec_items c.match-fit.out) w.in-Ok-2.ensures.answer
-            w.if-card-gt-MOST-CARD-BYTES.false w.in-Ok-2.ensures.state (ap vec_items w.out-is ∙ w.in-ok-put-card.ensures ∙ after_none c.new-out.ensures.items)
+            w.if-card-gt-MOST_CARD_BYTES.false w.in-Ok-2.ensures.state (ap vec_items w.out-is ∙ w.in_ok-put_card-in-Ok-2.ensures ∙ after_none c.new-out.ensures.items)
       ];
       promise = λ rs e h. all_told x card rs (tables_sound 128 c.args.rule.now rs e) e h;
     }

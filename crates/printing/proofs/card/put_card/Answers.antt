@@ -44,5 +44,5 @@ returns c =
     let none : false ≡ some_left (to_come c.loop-feed.feed) = sym c.loop-feed-test.false ∙ c.has_entry.ensures in
     IfOk-weaker c.put_counts.result _ _
     (λ u e. card_end (state c.loop-feed.watch) (to_come c.loop-feed.feed) (vec_items c.loop-feed.out) (vec_items c.put_held.new.out) (vec_items c.put_counts.new.out) _
-    none c.in-ok-put-held.ensures e c.loop-feed.invariant.2)
+    none c.in_ok-put_held.ensures e c.loop-feed.invariant.2)
     c.put_counts.ensures

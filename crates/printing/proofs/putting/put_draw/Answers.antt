@@ -8,8 +8,8 @@ use Rattle.printing.specs.Reports.{draw_reports, has_drawn, printed}
 use Rattle.printing.proofs.Prints.{front_is}
 use Rattle.printing.proofs.putting.put_draw.Goals as goal
 
-pub slice-bounds-put-lines-end : goal.slice-bounds-put-lines-end
-slice-bounds-put-lines-end g c =
+pub slice_bounds-put_lines-end : goal.slice_bounds-put_lines-end
+slice_bounds-put_lines-end g c =
     let st = state c.args.watch.now in
     let es = g.F.Feed.entries c.args.feed.now in
     let tray = length c.args.tray.now in
@@ -19,8 +19,8 @@ slice-bounds-put-lines-end g c =
     let long = c.draw.auto in
     omega arith
 
-pub returns-in-ok-put-lines : goal.returns-in-ok-put-lines
-returns-in-ok-put-lines g c =
+pub returns-in_ok-put_lines-in-Ok : goal.returns-in_ok-put_lines-in-Ok
+returns-in_ok-put_lines-in-Ok g c =
     let st = state c.args.watch.now in
     let es = g.F.Feed.entries c.args.feed.now in
     let tray = length c.args.tray.now in
@@ -31,7 +31,7 @@ returns-in-ok-put-lines g c =
     let told : draw_answer st es tray ≡ Ok n = sym d.answer in
     record {
       answer = ap has_drawn d.answer;
-      text = c.in-ok-put-lines.ensures
+      text = c.in_ok-put_lines-in-Ok.ensures
           ∙ ap (λ z. old ++ printed (map report.Line z)) (front_is lines c.args.tray.now c.draw.new.tray n d.tray (lines_counted st es tray n told))
           ∙ ap (λ a. old ++ printed (draw_reports a lines)) d.answer;
       state = d.state;
