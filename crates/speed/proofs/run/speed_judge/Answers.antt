@@ -19,7 +19,7 @@ returns-in-Err-make c =
     let a = c.args in
     let both = unmade (asked (watch_questions a.slots) (read_table a.bytes.now))
     (pattern_answer a.first a.per a.words.now a.count) _ c.in-Err-make.refusal a.slots (pattern_entries a.first a.per a.words.now a.count) a.count a.counts.now
-    c.in-default.ensures.answer c.in-Err-make.ensures.answer in
+    c.in_default.ensures.answer c.in-Err-make.ensures.answer in
     record { answer = c.number-in-Err-make.ensures ∙ both.0; counts = both.1 }
 
 pub returns : goal.returns
@@ -27,7 +27,7 @@ returns c =
     let a = c.args in
     let both = run_through (asked (watch_questions a.slots) (read_table a.bytes.now))
     (pattern_answer a.first a.per a.words.now a.count) _ _ a.slots (pattern_entries a.first a.per a.words.now a.count) a.count a.counts.now
-    c.in-default.ensures.answer c.in-default-make.ensures.answer
-    (state c.new-watch.result) (state c.fit.new.self) (state c.draw-all-tally.new.watch) (pattern_left c.new-pattern.result) (pattern_left c.make.new.self)
-    c.draw-all-tally.result _ c.fit.ensures.state c.make.ensures.left c.draw-all-tally.ensures.lines c.draw-all-tally.ensures.state (cc) in
+    c.in_default.ensures.answer c.in_default-make.ensures.answer
+    (state c.new-watch.result) (state c.fit.new.self) (state c.draw_all-tally.new.watch) (pattern_left c.new-pattern.result) (pattern_left c.make.new.self)
+    c.draw_all-tally.result _ c.fit.ensures.state c.make.ensures.left c.draw_all-tally.ensures.lines c.draw_all-tally.ensures.state (cc) in
     record { answer = both.0; counts = both.1 }
