@@ -86,8 +86,8 @@ fn refused(rt: HostRuntime) -> Result<(), Fail> {
     prints(&rt, rt.alloc(), &[], &[], "rule refused 1\n")?;
     let card = vec![in rt.alloc(); 0; MOST_CARD_BYTES + 1]?;
     let text = print_card(rt.alloc(), &SOON, &card)?;
-    assert_eq!(rt; text.as_slice(), b"log too long\n");
+    assert_eq!(rt; text.as_slice(), b"log too long\n".as_slice());
     let text = print_card(rt.alloc(), &SOON[1..], &card)?;
-    assert_eq!(rt; text.as_slice(), b"rule refused 1\n");
+    assert_eq!(rt; text.as_slice(), b"rule refused 1\n".as_slice());
     Ok(())
 }

@@ -1,5 +1,6 @@
 // Runs a watch on the bench: samples of a pattern, in seconds, under a layer of minutes and a shift, are judged by the rule of the file
 // rule.bin. The words behind the command are the first stamp, the samples to a stamp, the count, the shift, the slots, and the letter words.
+use anyhow::Context;
 use feed::{Feed, Minute, Pattern, Shift};
 use logic::{DrawRefusal, Line, Point};
 use printing::{put_counts, put_draw, put_held};
@@ -35,11 +36,11 @@ fn read_setting(rt: &HostRuntime) -> anyhow::Result<Setting> {
     let mut args = env::args(rt)?.skip(1);
     let usage = "usage: FIRST PER COUNT SHIFT SLOTS WORD..";
     let mut setting = Setting {
-        first: args.next().ok_or(usage)?.parse::<u32>()?,
-        per: args.next().ok_or(usage)?.parse::<u32>()?,
-        count: args.next().ok_or(usage)?.parse::<u32>()?,
-        shift: args.next().ok_or(usage)?.parse::<i32>()?,
-        slots: args.next().ok_or(usage)?.parse::<usize>()?,
+        first: args.next().context(usage)?.parse::<u32>()?,
+        per: args.next().context(usage)?.parse::<u32>()?,
+        count: args.next().context(usage)?.parse::<u32>()?,
+        shift: args.next().context(usage)?.parse::<i32>()?,
+        slots: args.next().context(usage)?.parse::<usize>()?,
         words: Vec::new(rt.alloc()),
     };
     for word in args {
