@@ -1,4 +1,6 @@
 // Judges a card by a rule: reads the file rule.bin and the card on standard input, and prints a line for each outcome.
+#![tactic(auto)]
+
 use printing::{MOST_CARD_BYTES, print_card};
 use rule::{MOST_RECORDS, RECORD_BYTES};
 use std::fs::File;

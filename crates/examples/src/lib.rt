@@ -1,3 +1,5 @@
+#![tactic(auto)]
+
 // Examples that go across crates, which are proved and then run as tests.
 #[cfg(test)]
 mod feeds;

@@ -1,4 +1,6 @@
 // Feeds: lists of entries still to come, drawn one at a time.
+#![tactic(auto)]
+
 mod entry;
 mod layer;
 mod minute;

@@ -1,30 +1,28 @@
 -- Over a run the shelf has the values that the published logic gives.
-use Rattle.std.proofs.Common.{◌≡◌, ℕ, zero, suc, ◌+◌, ◌-◌, ◌*◌, ◌<◌, ◌≤◌, Bool, true, false, cond, ◌||◌, eqb, leb, ◌⊎◌, List, [], ◌∷◌, ◌++◌, length, get_or, take, Some, None, Ok, Err, Option, Result, sym, refl, ap, ◌∙◌, subst, ap₂, inl, inr, arith}
+use Rattle.std.proofs.Common.{◌≡◌, ℕ, zero, suc, ◌+◌, ◌-◌, ◌*◌, ◌<◌, ◌≤◌, Bool, true, false, cond, List, [], ◌∷◌, ◌++◌, length, get_or, take, Some, None, Ok, Option, sym, refl, ap, ◌∙◌, subst, ap₂, arith}
 use Rattle.std.specs.Option.{option_map}
 use Rattle.std.proofs.lemmas.List.{length-append, get_or_append_left, get_or-take}
 use Rattle.std.proofs.lemmas.Bool.Decides.{nat_tests}
 use Rattle.truth.specs.Laws.{Ops, Laws}
 use Rattle.truth.specs.Plain.{plainly}
-use Rattle.truth.specs.Plainly.{plain_laws}
 use Rattle.rule.specs.declared.interval.Interval.{Interval}
 use Rattle.rule.specs.declared.record.Record.{Record}
 use Rattle.rule.specs.declared.record.Record.TheVariants.{True, Letter, Not, And, Or, Previous, Since, Next, Until}
 use Rattle.rule.specs.Intervals.{within, moved, last_shift, at_shift}
-use Rattle.rule.specs.Components.{shifts, first_component, components, left_of, right_of, earlier, looks_ahead, any_ahead}
+use Rattle.rule.specs.Components.{shifts, first_component, components, earlier, looks_ahead, any_ahead}
 use Rattle.rule.specs.Records.{allowed, Sound}
 use Rattle.rule.proofs.Numbering.{shifts_some, first_room, first_lt, left_earlier, right_earlier, moved_le}
-use Rattle.logic.specs.Logic.{Formula, truth, letter, negation, conjunction, disjunction, previous, since, next, until, Stream, Accepted, Begins, Past, Sat, Tells, formula_at}
+use Rattle.logic.specs.Logic.{Formula, previous, since, Stream, Accepted, Past, Sat, Tells, formula_at}
 use Rattle.logic.specs.Values.{at_shift_or, stepped, value}
 use Rattle.logic.specs.Tables.{built, formula, rule}
 use Rattle.logic.proofs.Shifts.{formula_at_zero}
 use Rattle.logic.proofs.Witness.{since_step_zero, since_step_suc}
 use Rattle.logic.proofs.Formulas.{formula_built, sound_earlier}
 use Rattle.logic.proofs.Plain.{plain_tells}
-use Rattle.instant.specs.Step.{argument, before, valued, newest, values_at, kept, is_first, gap_from, advanced, shelf_after, ruled}
-use Rattle.feed.specs.Lists.{onto}
+use Rattle.instant.specs.Step.{before, valued, newest, values_at, kept, is_first, advanced, shelf_after, ruled}
 use Rattle.instant.specs.Answers.{step_answer}
 use Rattle.instant.specs.Runs.{taken, Run, fitted, further, Witnessed, RunsWitnessed, Judged, Says}
-use Rattle.feed.proofs.Onto.{length_onto, getD_onto}
+use Rattle.feed.proofs.Onto.{getD_onto}
 use Rattle.instant.proofs.Kept.{length_kept}
 use Rattle.instant.proofs.Values.{length_newest, newest_at}
 

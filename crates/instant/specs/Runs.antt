@@ -1,10 +1,8 @@
 -- Runs of the instant watch, and what the logic says of the values that they leave on the shelf.
-use Rattle.std.specs.Prelude.{◌≡◌, ℕ, ◌+◌, ◌<◌, Bool, true, false, List, [], ◌∷◌, map, length, Some, None, Ok, Option, slice_index_or}
+use Rattle.std.specs.Prelude.{◌≡◌, ℕ, ◌+◌, ◌<◌, Bool, false, List, [], ◌∷◌, map, length, Some, None, Ok, Option, slice_index_or}
 use Rattle.std.specs.List.{range_with_len}
 use Rattle.truth.specs.Laws.{Ops}
-use Rattle.truth.specs.Plain.{plainly}
 use Rattle.feed.specs.Entries.{letter_of, letter_count}
-use Rattle.feed.specs.declared.entry.Sample.{Sample}
 use Rattle.rule.specs.declared.record.Record.{Record}
 use Rattle.rule.specs.declared.record.Record.TheVariants.{True}
 use Rattle.rule.specs.Components.{shifts, first_component, components, any_ahead}

@@ -1,4 +1,6 @@
 // The instant watch: rules without future operators, judged at once in any kind of truth.
+#![tactic(auto)]
+
 mod calls;
 mod judge;
 mod readouts;

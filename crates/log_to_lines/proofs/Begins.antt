@@ -1,12 +1,11 @@
 -- How a card begins, by what the fitting answered.
-use Rattle.std.proofs.Common.{◌≡◌, ℕ, ◌<◌, ◌≤◌, cond, leb, List, Ok, Err, Result, sym, refl, ap, ◌∙◌, arith}
+use Rattle.std.proofs.Common.{◌≡◌, ℕ, ◌<◌, ◌≤◌, cond, List, Ok, Err, Result, sym, ap, ◌∙◌, arith}
 use Rattle.std.proofs.lemmas.Bool.{le-leb, lt-leb}
 use Rattle.rule.specs.declared.record.Record.{Record}
 use Rattle.rule.specs.declared.refusal.RuleRefusal.{RuleRefusal}
 use Rattle.rule.specs.Reading.{Read}
 use Rattle.rule.specs.Refusals.{refusal_number}
 use Rattle.instant.specs.Answers.{fit_answer, fitted_records}
-use Rattle.lines.specs.declared.report.Report.{Report}
 use Rattle.lines.specs.declared.report.Report.TheVariants.{RuleRefused, LogTooLong}
 use Rattle.log_to_lines.specs.Sessions.{begins}
 

@@ -17,7 +17,6 @@ use Rattle.rule.specs.Refusals.{refusal_number}
 use Rattle.lines.specs.declared.report.Report.{Report}
 use Rattle.lines.specs.declared.report.Report.TheVariants.{Line, Refused, Spoiled, Held, Counts, RuleRefused, LogTooLong}
 use Rattle.logic.specs.declared.verdict.Line.TheVariants.{True, False}
-use Rattle.logic.specs.declared.verdict.Point.{Point}
 use Rattle.log_to_lines.specs.declared.session.Session.{Session}
 
 -- how a card of n bytes begins, by what was read of the rule: with its records, or with the one line that is printed

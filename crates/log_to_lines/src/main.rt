@@ -1,4 +1,6 @@
 // Judges a card by a rule: reads the file rule.bin and the card on standard input, and prints a line for each outcome.
+#![tactic(auto)]
+
 mod session;
 
 use feed::{Feed, RecordFeed};

@@ -10,7 +10,7 @@ use Rattle.rule.specs.Components.{shifts, own_waits, first_wait}
 use Rattle.logic.specs.Logic.{Accepted, since}
 use Rattle.logic.specs.Values.{stepped}
 use Rattle.logic.specs.Steps.{fitting, across, step, renewed}
-use Rattle.logic.specs.Tables.{row, formulas, formula, rule, Below, Earlier}
+use Rattle.logic.specs.Tables.{row, formulas, rule, Below, Earlier}
 use Rattle.logic.specs.Conditions.{gap_to, newest, carry, condition, carried, of_point}
 use Rattle.logic.specs.Waits.{settings, setting, component, replaced, ComponentStep, NewestTable, CarriedTable}
 use Rattle.logic.proofs.Places.{owner_at}

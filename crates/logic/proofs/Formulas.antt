@@ -7,7 +7,7 @@ use Rattle.rule.specs.Components.{first_wait}
 use Rattle.rule.specs.Records.{allowed, Sound}
 use Rattle.rule.proofs.Numbering.{left_earlier, right_earlier}
 use Rattle.logic.specs.Logic.{Formula}
-use Rattle.logic.specs.Tables.{row, built, formulas, formula, Below, Earlier, FormulasBuilt}
+use Rattle.logic.specs.Tables.{row, built, formulas, Below, Earlier, FormulasBuilt}
 use Rattle.logic.specs.Conditions.{Setting}
 use Rattle.logic.specs.Waits.{reading, settings}
 

@@ -1,4 +1,6 @@
 // The logic of rules: what a verdict says, and the theorems that every verdict rests on.
+#![tactic(auto)]
+
 mod refusal;
 mod theorems;
 mod verdict;

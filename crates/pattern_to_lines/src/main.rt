@@ -1,5 +1,7 @@
 // Runs a watch on the bench: samples of a pattern, in seconds, under a layer of minutes and a shift, are judged by the rule of the file
 // rule.bin. The words behind the command are the first stamp, the samples to a stamp, the count, the shift, the slots, and the letter words.
+#![tactic(auto)]
+
 use anyhow::Context;
 use feed::{Feed, Minute, Pattern, Shift};
 use logic::{DrawRefusal, Line, Point};

@@ -2,7 +2,6 @@
 use Rattle.std.proofs.Common.{◌≡◌, ℕ, ◌+◌, ◌<◌, cond, ltb, List, [], ◌∷◌, map, length, Err, sym, refl, ap, ◌∙◌, subst}
 use Rattle.std.proofs.lemmas.Bool.{cond-true, lt-ltb}
 use Rattle.feed.specs.declared.entry.Entry.{Entry}
-use Rattle.feed.specs.declared.entry.Content.TheVariants as content
 use Rattle.logic.specs.declared.verdict.Line.{Line}
 use Rattle.logic.specs.declared.refusal.DrawRefusal.{DrawRefusal}
 use Rattle.logic.specs.declared.refusal.DrawRefusal.TheVariants.{Counted, Tray, Spoiled, Stamp, Crowded, Slots}

@@ -1,4 +1,6 @@
 // What is printed: the lines of draws, of held points and of counts, and the whole print of a card.
+#![tactic(auto)]
+
 mod card;
 mod ending;
 mod putting;

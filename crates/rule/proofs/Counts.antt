@@ -1,12 +1,11 @@
 -- Components and waits of a table, counted.
-use Rattle.std.proofs.Common.{◌≡◌, ℕ, ◌+◌, ◌<◌, ◌≤◌, Bool, true, false, ◌||◌, ltb, List, [], ◌∷◌, length, get_or, take, sum_by, sym, refl, ap, ◌∙◌, arith}
+use Rattle.std.proofs.Common.{◌≡◌, ℕ, ◌+◌, ◌<◌, ◌≤◌, ltb, List, [], ◌∷◌, length, get_or, take, sum_by, sym, refl, ap, arith}
 use Rattle.std.proofs.lemmas.List.{take_all}
 use Rattle.std.proofs.lemmas.List.Sums.{sum_by-drop_more, sum_by_more, sum_by-take-le}
 use Rattle.std.proofs.lemmas.Bool.{lt-ltb}
 use Rattle.rule.specs.declared.record.Record.{Record}
 use Rattle.rule.specs.declared.record.Record.TheVariants.{True, Letter, Not, And, Or, Previous, Since, Next, Until}
-use Rattle.rule.specs.Components.{own_waits, waits, looks_ahead, any_ahead}
-use Rattle.rule.specs.Intervals.{last_shift}
+use Rattle.rule.specs.Components.{own_waits, waits, any_ahead}
 
 -- past the last record the numbers go on from all that there are
 pub numbers_past : (w : Record → ℕ) (rs : List Record) (j : ℕ) → length rs ≤ j → sum_by w rs ≡ sum_by w (take j rs)

@@ -1,16 +1,15 @@
 -- Where the components of a record lie among all, and what a record rests on.
-use Rattle.std.proofs.Common.{◌≡◌, ℕ, ◌+◌, ◌-◌, ◌<◌, ◌≤◌, Bool, true, false, cond, ◌&&◌, ltb, leb, ◌⊎◌, List, length, get_or, take, IfSome, Some, None, sum_by, Option, sym, refl, ap, ◌∙◌, subst, inl, inr, ⊎_elim, add-one, arith}
+use Rattle.std.proofs.Common.{◌≡◌, ℕ, ◌+◌, ◌-◌, ◌<◌, ◌≤◌, true, cond, List, length, get_or, take, IfSome, Some, None, sum_by, Option, refl, ap, arith}
 use Rattle.std.specs.Option.{option_map}
 use Rattle.std.proofs.lemmas.List.{take_all, take-take}
 use Rattle.std.proofs.lemmas.List.Sums.{sum_by_more, sum_by-take-le}
-use Rattle.std.proofs.lemmas.Bool.{cases_lt, and_parts, ltb-true}
 use Rattle.std.proofs.lemmas.Bool.Decides.{nat_tests}
 use Rattle.rule.specs.declared.interval.Interval.{Interval}
 use Rattle.rule.specs.declared.record.Record.{Record}
 use Rattle.rule.specs.declared.record.Record.TheVariants.{True, Letter, Not, And, Or, Previous, Since, Next, Until}
 use Rattle.rule.specs.Intervals.{within, moved, last_shift}
 use Rattle.rule.specs.Components.{shifts, first_component, components, left_of, right_of, earlier}
-use Rattle.rule.specs.Records.{allowed, allowed_interval, Sound}
+use Rattle.rule.specs.Records.{allowed, Sound}
 
 pub first_more : (rs : List Record) (j : ℕ) → j < length rs → first_component rs (j + 1) ≡ first_component rs j + shifts (get_or rs j True)
 first_more rs j h = sum_by_more shifts rs j True h

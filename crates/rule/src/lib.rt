@@ -1,4 +1,6 @@
 // Rules: the table of five-byte records, read and checked, and the numbers of its components and waits.
+#![tactic(auto)]
+
 mod check;
 mod interval;
 mod limits;

@@ -1,11 +1,10 @@
 -- Lines counted one after another, and one draw more.
-use Rattle.std.proofs.Common.{◌≡◌, ℕ, suc, ◌+◌, ◌*◌, ◌^◌, ◌<◌, ◌≤◌, List, [], ◌∷◌, ◌++◌, length, get_or, take, Ok, Err, sym, refl, ap, ◌∙◌, add-one, arith}
+use Rattle.std.proofs.Common.{◌≡◌, ℕ, ◌+◌, ◌*◌, ◌^◌, ◌<◌, ◌≤◌, List, [], ◌∷◌, ◌++◌, length, get_or, take, Ok, sym, refl, ap, ◌∙◌, add-one, arith}
 use Rattle.std.proofs.lemmas.List.{length-append, take_all, take-append-le, take_more}
 use Rattle.feed.specs.Lists.{onto}
 use Rattle.feed.specs.declared.entry.Entry.{Entry}
 use Rattle.logic.specs.declared.verdict.Line.{Line}
 use Rattle.logic.specs.declared.verdict.Line.TheVariants.{True, False, Joined}
-use Rattle.logic.specs.declared.refusal.DrawRefusal.{DrawRefusal}
 use Rattle.logic.specs.States.{State}
 use Rattle.logic.specs.Draws.{draw_answer, draw_lines, draw_rest, draw_state}
 use Rattle.logic.proofs.Histories.{lines_counted, tray_enough}

@@ -1,5 +1,5 @@
 -- A refused draw gives no lines.
-use Rattle.std.proofs.Common.{◌≡◌, ℕ, Bool, true, false, cond, ltb, leb, List, [], ◌∷◌, length, Ok, Err, sym, refl, arith}
+use Rattle.std.proofs.Common.{◌≡◌, ℕ, Bool, true, false, cond, ltb, leb, List, [], ◌∷◌, length, Ok, Err, refl, arith}
 use Rattle.feed.specs.declared.entry.Entry.{Entry}
 use Rattle.feed.specs.declared.entry.Content.{Content}
 use Rattle.feed.specs.declared.entry.Content.TheVariants as content

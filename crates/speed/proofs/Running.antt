@@ -1,5 +1,5 @@
 -- A run by what was read of the rule and how the pattern was made.
-use Rattle.std.proofs.Common.{◌≡◌, ℕ, List, Ok, Err, Result, sym, refl, ap, ◌∙◌, ap₂, arith}
+use Rattle.std.proofs.Common.{◌≡◌, ℕ, List, Ok, Err, Result, refl, ap, ◌∙◌, ap₂, arith}
 use Rattle.feed.specs.declared.entry.Entry.{Entry}
 use Rattle.feed.specs.declared.pattern.PatternRefusal.{PatternRefusal}
 use Rattle.feed.specs.Patterns.{pattern_number, taken}
@@ -8,7 +8,6 @@ use Rattle.rule.specs.Refusals.{refusal_number}
 use Rattle.rule.specs.declared.refusal.RuleRefusal.{RuleRefusal}
 use Rattle.instant.specs.Answers.{fit_answer}
 use Rattle.logic.specs.States.{State}
-use Rattle.logic.specs.Draws.{held_count}
 use Rattle.watch.specs.Fittings.{after_fitting}
 use Rattle.speed.specs.declared.run.Counts.{Counts}
 use Rattle.speed.specs.declared.tally.Tally.{Tally}

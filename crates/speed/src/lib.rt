@@ -1,4 +1,6 @@
 // What the benchmark measures: a whole run of draws from a pattern, as a function for programs of other languages.
+#![tactic(auto)]
+
 mod judging;
 mod run;
 mod tally;

@@ -1,4 +1,6 @@
 // Kinds of truth: their operations and laws, the plain kind of yes and no, and open conditions with their waits.
+#![tactic(auto)]
+
 mod condition;
 mod kind;
 mod plain;

@@ -1,5 +1,5 @@
 -- Runs of permitted calls on a newly fitted watch.
-use Rattle.std.specs.Prelude.{◌≡◌, ℕ, min, List, [], ◌∷◌, ◌++◌, Some, None, Ok, Err, Option, Result}
+use Rattle.std.specs.Prelude.{ℕ, min, List, [], ◌∷◌, ◌++◌, Some, None, Ok, Err, Option, Result}
 use Rattle.feed.specs.declared.entry.Entry.{Entry}
 use Rattle.rule.specs.Reading.{Read}
 use Rattle.rule.specs.declared.refusal.RuleRefusal.{RuleRefusal}

@@ -1,4 +1,6 @@
 // The look-ahead watch: it judges every sample by its rule, holds open questions, and joins those that are the same.
+#![tactic(auto)]
+
 mod accepting;
 mod arrival;
 mod call;

@@ -1,9 +1,7 @@
 -- What is left to prove of `argument_of`.
-use Rattle.std.proofs.Common.{◌≡◌, ℕ, ◌*◌, ◌<◌, ◌≤◌, List, length, get_or, IfSome, Option, sym, ap, ◌∙◌, subst, arith}
+use Rattle.std.proofs.Common.{ℕ, ◌<◌, length, get_or, IfSome, Option, sym, ap, ◌∙◌, subst, arith}
 use Rattle.std.proofs.lemmas.List.{get_or_read}
-use Rattle.rule.specs.declared.record.Record.{Record}
 use Rattle.rule.specs.Reading.{records}
-use Rattle.rule.specs.Components.{first_component, components}
 use Rattle.rule.proofs.Numbering.{first_lt}
 use Rattle.instant.specs.Step.{argument}
 use Rattle.instant.proofs.shelf.argument_of.Goals as goal

@@ -1,5 +1,5 @@
 -- What is left to prove of `before_of`.
-use Rattle.std.proofs.Common.{◌≡◌, ℕ, ◌+◌, ◌<◌, length, get_or, drop, IfSome, Option, sym, ap, ◌∙◌, subst, arith}
+use Rattle.std.proofs.Common.{ℕ, ◌+◌, ◌<◌, length, get_or, drop, IfSome, Option, sym, ap, ◌∙◌, subst, arith}
 use Rattle.std.proofs.lemmas.List.{get_or_read, get_or-drop}
 use Rattle.rule.specs.Reading.{records}
 use Rattle.rule.specs.Components.{components}

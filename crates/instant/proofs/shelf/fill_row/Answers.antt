@@ -1,5 +1,5 @@
 -- What is left to prove of `fill_row`.
-use Rattle.std.proofs.Common.{◌≡◌, ◌+◌, ◌<◌, ◌++◌, map, length, get_or, drop, set, sym, ap, ◌∙◌, ap₂, arith, rules}
+use Rattle.std.proofs.Common.{◌≡◌, ◌+◌, ◌<◌, ◌++◌, map, get_or, drop, set, ap, ◌∙◌, ap₂, arith}
 use Rattle.std.specs.List.{range_with_len}
 use Rattle.rule.specs.declared.record.Record.TheVariants.{True}
 use Rattle.rule.specs.Reading.{records}

@@ -1,5 +1,5 @@
 -- What is left to prove of `keep`.
-use Rattle.std.proofs.Common.{◌≡◌, ◌+◌, ◌<◌, ◌≤◌, Bool, true, false, cond, ◌++◌, length, get_or, take, drop, set, sym, refl, ap, ◌∙◌, subst, ap₂, arith}
+use Rattle.std.proofs.Common.{◌≡◌, ◌+◌, ◌++◌, length, get_or, take, set, sym, ap, ◌∙◌, arith}
 use Rattle.instant.specs.Step.{kept}
 use Rattle.feed.specs.Lists.{onto}
 use Rattle.feed.proofs.Onto.{onto_part, onto_take_more}

@@ -1,5 +1,5 @@
 -- What is left to prove of `last_value`.
-use Rattle.std.proofs.Common.{◌≡◌, ◌-◌, ◌<◌, length, get_or, ap, ◌∙◌, arith}
+use Rattle.std.proofs.Common.{◌-◌, ◌<◌, length, get_or, ap, ◌∙◌, arith}
 use Rattle.std.proofs.lemmas.List.{get_or_read}
 use Rattle.rule.specs.Reading.{records}
 use Rattle.rule.specs.Components.{first_component}

@@ -1,6 +1,5 @@
 -- What is left to prove of `value_of`.
-use Rattle.std.proofs.Common.{◌≡◌, ℕ, ◌<◌, length, get_or, sym, ap, ◌∙◌, subst, arith}
-use Rattle.rule.specs.declared.record.Record.TheVariants.{True}
+use Rattle.std.proofs.Common.{◌<◌, sym, ◌∙◌}
 use Rattle.rule.specs.Reading.{records}
 use Rattle.rule.specs.Components.{components}
 use Rattle.rule.proofs.Numbering.{of_some, earlier_lt}

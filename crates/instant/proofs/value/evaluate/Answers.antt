@@ -1,5 +1,5 @@
 -- What is left to prove of `evaluate`.
-use Rattle.std.proofs.Common.{◌≡◌, sym, ap, ◌∙◌}
+use Rattle.std.proofs.Common.{sym, ap, ◌∙◌}
 use Rattle.std.proofs.lemmas.List.{get_or_past}
 use Rattle.rule.specs.declared.record.Record.{Record}
 use Rattle.logic.specs.Steps.{evaluated}

@@ -1,9 +1,8 @@
 -- One draw more, and its lines.
-use Rattle.std.proofs.Common.{◌≡◌, ◌-◌, ◌^◌, ◌<◌, ◌≤◌, length, take, sym, refl, ap, ◌∙◌, arith, rules}
+use Rattle.std.proofs.Common.{◌≡◌, ◌-◌, length, take, sym, refl, ap, ◌∙◌, arith, rules}
 use native.Mathlib.Nat.{sub-zero}
 use Rattle.std.proofs.lemmas.List.{length-take-le}
 use Rattle.watch.specs.States.{state}
-use Rattle.logic.specs.Draws.{draw_lines}
 use Rattle.speed.specs.Tallies.{course, tallied}
 use Rattle.speed.proofs.Counting.{further, given_few, given_front, room}
 use Rattle.speed.proofs.Refused.{refused_lines}

@@ -1,5 +1,5 @@
 -- By what was read of the rule and how the pattern was made.
-use Rattle.std.proofs.Common.{refl, ◌∙◌}
+use Rattle.std.proofs.Common.{◌∙◌}
 use Rattle.rule.specs.Reading.{asked, read_table, watch_questions}
 use Rattle.feed.specs.Patterns.{pattern_answer, pattern_entries, pattern_left}
 use Rattle.watch.specs.States.{state}

@@ -8,7 +8,7 @@ use Rattle.instant.specs.Step as instant
 use Rattle.logic.specs.Steps.{evaluated}
 use Rattle.logic.specs.Tables.{row}
 use Rattle.logic.specs.Values.{at_shift_or}
-use Rattle.logic.specs.Draws.{among, given}
+use Rattle.logic.specs.Draws.{among}
 use Rattle.watch.proofs.Filling.{spelled_evaluated}
 use Rattle.watch.proofs.fill.condition_of.Goals as goal
 

@@ -1,9 +1,9 @@
-use Rattle.std.proofs.Common.{◌≡◌, ℕ, ◌+◌, ◌-◌, ◌<◌, ◌≤◌, length, take, set, sym, refl, ap, ◌∙◌, ap₂, arith}
+use Rattle.std.proofs.Common.{◌≡◌, ℕ, ◌+◌, ◌-◌, take, set, refl, ap, ◌∙◌, ap₂, arith}
 use Rattle.std.proofs.lemmas.List.{length-set}
 use Rattle.truth.specs.declared.table.Condition.{Condition}
 use Rattle.feed.proofs.Onto.{onto_part}
 use Rattle.rule.specs.Reading.{records}
-use Rattle.rule.specs.Components.{components, first_component, shifts}
+use Rattle.rule.specs.Components.{first_component, shifts}
 use Rattle.rule.proofs.Numbering.{first_room}
 use Rattle.logic.specs.Draws.{conditioned}
 use Rattle.logic.specs.Tables.{row}

@@ -1,15 +1,15 @@
-use Rattle.std.proofs.Common.{◌≡◌, ℕ, ◌+◌, ◌<◌, ◌≤◌, length, take, set, sym, refl, ap, ◌∙◌, ap₂, arith}
+use Rattle.std.proofs.Common.{◌≡◌, ℕ, ◌+◌, set, refl, ap, ◌∙◌, ap₂, arith}
 use Rattle.std.proofs.lemmas.List.{length-set}
 use Rattle.truth.specs.declared.table.Condition.{Condition}
 use Rattle.feed.proofs.Onto.{onto_part}
 use Rattle.rule.specs.Reading.{records}
-use Rattle.rule.specs.Components.{first_component, first_wait, own_waits, waits}
+use Rattle.rule.specs.Components.{first_component, first_wait, own_waits}
 use Rattle.rule.proofs.Counts.{numbers_room}
 use Rattle.truth.specs.Tables.{openly}
 use Rattle.logic.specs.Steps.{renewed}
 use Rattle.logic.specs.Draws.{among}
 use Rattle.logic.specs.Tables.{row}
-use Rattle.watch.proofs.Filling.{partly, partly_before, partly_more}
+use Rattle.watch.proofs.Filling.{partly, partly_more}
 use Rattle.watch.proofs.fill.renew_row.Goals as goal
 
 pub loop-s-init : goal.loop-s-init

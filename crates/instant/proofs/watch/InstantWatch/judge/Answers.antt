@@ -1,10 +1,9 @@
 -- What is left to prove of `judge`.
-use Rattle.std.proofs.Common.{◌≡◌, ℕ, ◌<◌, Bool, true, false, cond, List, ◌∷◌, length, is_ok, Some, Ok, Err, Option, Result, sym, refl, ap, ◌∙◌, subst, arith}
+use Rattle.std.proofs.Common.{◌≡◌, ℕ, ◌<◌, Bool, true, false, cond, List, ◌∷◌, length, is_ok, Ok, Result, sym, ap, ◌∙◌, subst, arith}
 use Rattle.std.proofs.lemmas.List.{length-take-le}
 use Rattle.truth.specs.Plain.{plainly}
 use Rattle.rule.specs.Reading.{records}
 use Rattle.rule.specs.Components.{components}
-use Rattle.logic.specs.Logic.{Accepted}
 use Rattle.instant.specs.declared.refusal.StepRefusal.{StepRefusal}
 use Rattle.instant.specs.Answers.{step_answer, with_value}
 use Rattle.instant.specs.Step.{ruled, values, shelf_after}

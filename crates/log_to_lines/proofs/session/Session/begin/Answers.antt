@@ -1,4 +1,3 @@
-use Rattle.std.proofs.Common.{arith}
 use Rattle.rule.specs.Reading.{asked, instant_questions, read_table, records}
 use Rattle.log_to_lines.proofs.Begins.{refused, too_long, starts}
 use Rattle.log_to_lines.proofs.session.Session.begin.Goals as goal

@@ -1,5 +1,5 @@
 -- What is left to prove of `first_component`.
-use Rattle.std.proofs.Common.{length, ◌∙◌, arith}
+use Rattle.std.proofs.Common.{◌∙◌, arith}
 use Rattle.std.proofs.lemmas.List.{length-take-le}
 use Rattle.rule.specs.Components.{shifts}
 use Rattle.rule.specs.Reading.{records}

@@ -1,5 +1,5 @@
 -- What is left to prove of `first_wait`.
-use Rattle.std.proofs.Common.{length, ◌∙◌, arith}
+use Rattle.std.proofs.Common.{◌∙◌, arith}
 use Rattle.std.proofs.lemmas.List.{length-take-le}
 use Rattle.rule.specs.Components.{own_waits}
 use Rattle.rule.specs.Reading.{records}

@@ -1,5 +1,5 @@
 -- What is left to prove of `read`.
-use Rattle.std.proofs.Common.{◌≡◌, ◌+◌, ◌<◌, ◌≤◌, true, [], ◌∷◌, ◌++◌, length, get_or, take, drop, set, sym, ap, ◌∙◌, subst, ap₂, arith, rules}
+use Rattle.std.proofs.Common.{◌≡◌, ◌+◌, ◌<◌, ◌≤◌, true, [], ◌∷◌, ◌++◌, length, get_or, take, set, sym, ap, ◌∙◌, subst, ap₂, arith, rules}
 use Rattle.std.proofs.lemmas.List.{take_rest, length-drop, length-set, length-take-le, take_more_set}
 use Rattle.rule.specs.Records.{allowed, Sound}
 use Rattle.rule.specs.Reading.{read_from, preceded}

@@ -1,7 +1,5 @@
-use Rattle.std.proofs.Common.{◌≡◌, ◌+◌, cond, length, get_or, take, drop, Some, sym, ap, ◌∙◌, arith}
+use Rattle.std.proofs.Common.{◌+◌, cond, get_or, take, drop, Some, sym, ap, ◌∙◌, arith}
 use Rattle.std.proofs.lemmas.List.{at_drop_all, length-take-le}
-use Rattle.truth.specs.Tables.{openly}
-use Rattle.logic.specs.declared.verdict.HeldPoint.{HeldPoint}
 use Rattle.logic.specs.Draws.{found}
 use Rattle.watch.proofs.Lookups.{found_at}
 use Rattle.watch.proofs.treatment.Treatment.find.Goals as goal

@@ -1,10 +1,9 @@
-use Rattle.std.proofs.Common.{◌≡◌, ℕ, List, length, take, Option, sym, ap, ◌∙◌, ap₂}
+use Rattle.std.proofs.Common.{ℕ, List, length, take, Option, ap, ◌∙◌, ap₂}
 use Rattle.truth.specs.declared.table.Condition.{Condition}
 use Rattle.feed.specs.declared.entry.Sample.{Sample}
 use Rattle.rule.specs.Reading.{records}
 use Rattle.rule.specs.Components.{components, waits}
 use Rattle.logic.specs.Draws.{Filled, filled, gap_from}
-use Rattle.watch.specs.States.{state}
 use Rattle.watch.proofs.Filling.{values_front, becomes_front}
 use Rattle.watch.proofs.watch.Watch.conditions_at.Goals as goal
 

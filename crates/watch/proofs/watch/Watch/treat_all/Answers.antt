@@ -1,4 +1,4 @@
-use Rattle.std.proofs.Common.{◌≡◌, arith}
+use Rattle.std.proofs.Common.{arith}
 use Rattle.watch.specs.Treatments.{outcome}
 use Rattle.watch.proofs.Treated.{treated_more, treated_end}
 use Rattle.watch.proofs.watch.Watch.treat_all.Goals as goal
