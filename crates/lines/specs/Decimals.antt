@@ -1,7 +1,7 @@
 -- Numbers in decimals.
 use Rattle.std.specs.Prelude.{◌≡◌, ℕ, ◌+◌, ◌-◌, ◌*◌, ◌<◌, ◌≤◌, cond, List, [], ◌∷◌, map, codes, ◌==◌, slice_index}
 use Rattle.std.specs.Int.Digits.{digits_of}
-use Rattle.std.specs.List.{AllByRecursion as All}
+use Rattle.std.specs.List.{AllByRecursion}
 
 -- the byte of a digit
 abbrev pub digit : ℕ → ℕ
@@ -20,5 +20,5 @@ read_on n (b ∷ bs) = read_on (n * 10 + (b - 48)) bs
 abbrev pub DecimalsStand : Type 0
 DecimalsStand =
     (n : ℕ) →
-    (read_on 0 (decimal n) ≡ n) × All (λ b. (48 ≤ b) × (b ≤ 57)) (decimal n) × (0 < n → 48 < slice_index (decimal n) 0)
+    (read_on 0 (decimal n) ≡ n) × AllByRecursion (λ b. (48 ≤ b) × (b ≤ 57)) (decimal n) × (0 < n → 48 < slice_index (decimal n) 0)
     × (n ≡ 0 → decimal n ≡ codes "0")

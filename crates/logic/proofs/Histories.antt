@@ -1,6 +1,6 @@
 -- The promise holds over every history of a watch.
 use Rattle.std.proofs.Common.{◌≡◌, ℕ, zero, suc, ◌+◌, ◌-◌, ◌<◌, ◌≤◌, Bool, true, false, cond, not, eqb, ltb, leb, ◌⊎◌, List, [], ◌∷◌, ◌++◌, map, reverse, length, Some, Ok, Err, count_by, Result, sym, refl, ap, ◌∙◌, subst, ap₂, inl, inr, arith}
-use Rattle.std.specs.List.{ContainsAt as Has, AllByRecursion as All}
+use Rattle.std.specs.List.{ContainsAt as Has, AllByRecursion}
 use Rattle.std.proofs.lemmas.List.{append-nil, append_assoc, map-append, reverse-append, length-append, length-map}
 use Rattle.std.proofs.ByRecursion.{all-has, All-weaker}
 use Rattle.std.proofs.lemmas.List.Sums.{sum_by-cons, sum_by-append}
@@ -85,7 +85,7 @@ run_rising : {rs : List Record} {ps : List (Accepted Bool)} {ls : List Verdict} 
 run_rising fitted = tt
 run_rising (accepts r rise t) = rise
 
-held_below : (rs : List Record) (ps : List (Accepted Bool)) (ls : List Verdict) (held : List ℕ) → Run rs ps ls held → All (λ i. i < length ps) held
+held_below : (rs : List Record) (ps : List (Accepted Bool)) (ls : List Verdict) (held : List ℕ) → Run rs ps ls held → AllByRecursion (λ i. i < length ps) held
 held_below rs ps ls held r = All-weaker (Undecided rs ps) (λ i. i < length ps) (λ i u. u.accepted) held (run_law rs ps ls held r).undecided
 
 -- what holds of a state over the points ps
@@ -332,7 +332,7 @@ counted_there i (v ∷ vs) held h = elim (cases_eq i (subject v)) [
 ]
 
 -- joins lead from each point to one that is settled or held
-module _ (vs : List Verdict) (held : List ℕ) (n : ℕ) (once : (i : ℕ) → count_by (eqb i) (map subject vs ++ held) ≡ cond (ltb i n) 1 0) (backward : All Backward vs) where
+module _ (vs : List Verdict) (held : List ℕ) (n : ℕ) (once : (i : ℕ) → count_by (eqb i) (map subject vs ++ held) ≡ cond (ltb i n) 1 0) (backward : AllByRecursion Backward vs) where
   abbrev Ends : ℕ → Type 0
   Ends i = (j : ℕ) × Leads vs i j × (Settled vs j ⊎ Has held j)
 
@@ -368,14 +368,14 @@ lines_split (l ∷ ls) =
     omega arith
 
 run_young : {rs : List Record} {ps : List (Accepted Bool)} {ls : List Verdict} {held : List ℕ} → Run rs ps ls held →
-    All (λ i. Not (Over (reach (rule rs)) (newest_stamp ps - stamp_of ps i))) held
+    AllByRecursion (λ i. Not (Over (reach (rule rs)) (newest_stamp ps - stamp_of ps i))) held
 run_young fitted = tt
 run_young {rs} (accepts {p = p} {ps = ps} {before = before} {now = now} {held = held} r rise t) = held_young rs p ps (before ++ now) held (accepts r rise t)
 
 -- held points whose conditions differ have different tables
 module _ (rs : List Record) (few : waits rs ≤ wait_count) (ps : List (Accepted Bool)) where
-  apart_all : (h : HeldPoint) (i : ℕ) → Stands rs ps h i → (ks : List HeldPoint) (js : List ℕ) → Stand rs ps ks js → All (Different rs ps i) js →
-      All (λ k. Not (h.condition ≡ k.condition)) ks
+  apart_all : (h : HeldPoint) (i : ℕ) → Stands rs ps h i → (ks : List HeldPoint) (js : List ℕ) → Stand rs ps ks js → AllByRecursion (Different rs ps i) js →
+      AllByRecursion (λ k. Not (h.condition ≡ k.condition)) ks
   apart_all h i s [] js t d = tt
   apart_all h i s (k ∷ ks) [] t d = absurd t
   apart_all h i s (k ∷ ks) (j ∷ js) t d =
@@ -387,7 +387,7 @@ module _ (rs : List Record) (few : waits rs ≤ wait_count) (ps : List (Accepted
   apart_held (h ∷ hs) (i ∷ is) s d = (apart_all h i s.0 hs is s.1 d.0, apart_held hs is s.1 d.1)
 
 -- the rule is true at both ends of joins or at neither
-leads_share : (rs : List Record) (ρ : Stream Bool) (vs : List Verdict) → All (Truthful rs ρ) vs → {i j : ℕ} → Leads vs i j →
+leads_share : (rs : List Record) (ρ : Stream Bool) (vs : List Verdict) → AllByRecursion (Truthful rs ρ) vs → {i j : ℕ} → Leads vs i j →
     (Sat ρ (rule rs) i → Sat ρ (rule rs) j) × (Sat ρ (rule rs) j → Sat ρ (rule rs) i)
 leads_share rs ρ vs h arrived = ((λ x. x), (λ x. x))
 leads_share rs ρ vs h (by_join {i = i} {j = j} here lt rest) =

@@ -1,6 +1,6 @@
 -- Different points have different names, and names stay.
 use Rattle.std.proofs.Common.{◌≡◌, ℕ, suc, ◌<◌, Bool, cond, eqb, List, [], ◌∷◌, map, length, sym, refl, ap, ◌∙◌, ap₂, inl, inr, arith}
-use Rattle.std.specs.List.{AllByRecursion as All}
+use Rattle.std.specs.List.{AllByRecursion}
 use Rattle.std.proofs.ByRecursion.{All-append, all-has, All-weaker}
 use Rattle.std.proofs.lemmas.List.Sums.{sum_by-cons}
 use Rattle.std.proofs.lemmas.Bool.{cases_eq, cases_order, eq-eqb, ne_eqb, cond-true, cond-false}
@@ -70,18 +70,18 @@ below_more n (false_at i) h = omega arith
 below_more n (joined i j) h = (omega (arith, h.0), omega (arith, h.1))
 
 treated_below : {rs : List Record} {ps : List (Accepted Bool)} (n : ℕ) {kept is held : List ℕ} {ls : List Verdict} → Treats rs ps kept is ls held →
-    All (λ i. i < n) kept → All (λ i. i < n) is → All (Below n) ls
+    AllByRecursion (λ i. i < n) kept → AllByRecursion (λ i. i < n) is → AllByRecursion (Below n) ls
 treated_below n none_left k h = tt
 treated_below n (is_true c t) k h = (h.0, treated_below n t k h.1)
 treated_below n (is_false c t) k h = (h.0, treated_below n t k h.1)
 treated_below n (is_same {j = j} {kept = kept} m c t) k h = ((h.0, all-has (λ i. i < n) kept j k m), treated_below n t k h.1)
 treated_below n (is_open a b c t) k h = treated_below n t (h.0, k) h.1
 
-run_below : (rs : List Record) (ps : List (Accepted Bool)) (ls : List Verdict) (held : List ℕ) → Run rs ps ls held → All (Below (length ps)) ls
+run_below : (rs : List Record) (ps : List (Accepted Bool)) (ls : List Verdict) (held : List ℕ) → Run rs ps ls held → AllByRecursion (Below (length ps)) ls
 run_below rs ps ls held fitted = tt
 run_below rs ps ls held (accepts {ps = qs} {before = before} {now = now} {old = old} r rise t) =
     let n = length qs in
-    let earlier : All (λ i. i < suc n) old = All-weaker (Undecided rs qs) (λ i. i < suc n) (λ i u. omega (arith, u.accepted)) old (run_law rs qs before old r).undecided in
+    let earlier : AllByRecursion (λ i. i < suc n) old = All-weaker (Undecided rs qs) (λ i. i < suc n) (λ i u. omega (arith, u.accepted)) old (run_law rs qs before old r).undecided in
     All-append (Below (suc n)) before now (All-weaker (Below n) (Below (suc n)) (below_more n) before (run_below rs qs before old r))
     (treated_below (suc n) t tt (All-append (λ i. i < suc n) old (n ∷ []) earlier (omega arith, tt)))
 
@@ -93,6 +93,6 @@ line_stays p ps (joined i j) h = ap₂ Joined (name_stays p ps i h.0) (name_stay
 pub lines_stay : LinesStay
 lines_stay rs p ps ls held r = go ls (run_below rs ps ls held r)
   where
-    go : (ls : List Verdict) → All (Below (length ps)) ls → map (line_of (p ∷ ps)) ls ≡ map (line_of ps) ls
+    go : (ls : List Verdict) → AllByRecursion (Below (length ps)) ls → map (line_of (p ∷ ps)) ls ≡ map (line_of ps) ls
     go [] h = refl
     go (l ∷ ls) h = ap₂ ◌∷◌ (line_stays p ps l h.0) (go ls h.1)

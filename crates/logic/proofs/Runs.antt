@@ -1,6 +1,6 @@
 -- The law of runs.
 use Rattle.std.proofs.Common.{◌≡◌, ℕ, suc, ◌+◌, ◌-◌, ◌<◌, Bool, true, false, cond, eqb, ltb, List, [], ◌∷◌, ◌++◌, map, length, count_by, sym, refl, ap, ◌∙◌, append_assoc, arith, length-append}
-use Rattle.std.specs.List.{ContainsAt as Has, AllByRecursion as All}
+use Rattle.std.specs.List.{ContainsAt as Has, AllByRecursion}
 use Rattle.std.proofs.ByRecursion.{All-append, all-has, all_has_itself, All-weaker}
 use Rattle.std.proofs.lemmas.List.Sums.{sum_by-cons, sum_by-append}
 use Rattle.std.proofs.lemmas.Bool.Decides.{nat_tests}
@@ -30,7 +30,7 @@ count_held n i is xs ys e =
 
 module _ {rs : List Record} {ps : List (Accepted Bool)} where
   -- what holds of each of the treated points holds of each that is held, and so for pairs
-  held_all : (P : ℕ → Type 0) {kept is held : List ℕ} {ls : List Verdict} → Treats rs ps kept is ls held → All P is → All P held
+  held_all : (P : ℕ → Type 0) {kept is held : List ℕ} {ls : List Verdict} → Treats rs ps kept is ls held → AllByRecursion P is → AllByRecursion P held
   held_all P none_left h = tt
   held_all P (is_true c t) h = held_all P t h.1
   held_all P (is_false c t) h = held_all P t h.1
@@ -61,20 +61,20 @@ module _ {rs : List Record} {ps : List (Accepted Bool)} where
   treated_total (is_open a b c t) = let h = treated_total t in omega arith
 
   -- the held points are open, different from each other and from those kept before
-  held_undecided : {kept is held : List ℕ} {ls : List Verdict} → Treats rs ps kept is ls held → All (λ i. i < length ps) is → All (Undecided rs ps) held
+  held_undecided : {kept is held : List ℕ} {ls : List Verdict} → Treats rs ps kept is ls held → AllByRecursion (λ i. i < length ps) is → AllByRecursion (Undecided rs ps) held
   held_undecided none_left h = tt
   held_undecided (is_true c t) h = held_undecided t h.1
   held_undecided (is_false c t) h = held_undecided t h.1
   held_undecided (is_same k c t) h = held_undecided t h.1
   held_undecided (is_open a b c t) h = (record { accepted = h.0; not_true = a; not_false = b }, held_undecided t h.1)
 
-  held_new : {kept is held : List ℕ} {ls : List Verdict} → Treats rs ps kept is ls held → All (λ i. All (λ j. Different rs ps j i) kept) held
+  held_new : {kept is held : List ℕ} {ls : List Verdict} → Treats rs ps kept is ls held → AllByRecursion (λ i. AllByRecursion (λ j. Different rs ps j i) kept) held
   held_new none_left = tt
   held_new (is_true c t) = held_new t
   held_new (is_false c t) = held_new t
   held_new (is_same k c t) = held_new t
   held_new (is_open {i = i} {kept = kept} {held = held} a b c t) =
-      (c, All-weaker (λ n. All (λ j. Different rs ps j n) (i ∷ kept)) (λ n. All (λ j. Different rs ps j n) kept) (λ n h. h.1) held (held_new t))
+      (c, All-weaker (λ n. AllByRecursion (λ j. Different rs ps j n) (i ∷ kept)) (λ n. AllByRecursion (λ j. Different rs ps j n) kept) (λ n h. h.1) held (held_new t))
 
   held_apart : {kept is held : List ℕ} {ls : List Verdict} → Treats rs ps kept is ls held → Pairwise (Different rs ps) held
   held_apart none_left = tt
@@ -82,10 +82,10 @@ module _ {rs : List Record} {ps : List (Accepted Bool)} where
   held_apart (is_false c t) = held_apart t
   held_apart (is_same k c t) = held_apart t
   held_apart (is_open {i = i} {kept = kept} {held = held} a b c t) =
-      (All-weaker (λ n. All (λ j. Different rs ps j n) (i ∷ kept)) (Different rs ps i) (λ n h. h.0) held (held_new t), held_apart t)
+      (All-weaker (λ n. AllByRecursion (λ j. Different rs ps j n) (i ∷ kept)) (Different rs ps i) (λ n h. h.0) held (held_new t), held_apart t)
 
   -- a point is joined to one that was kept before or is held
-  treated_joins : (P : ℕ → Type 0) {kept is held : List ℕ} {ls : List Verdict} → Treats rs ps kept is ls held → All P kept → All P held → All (Joins P) ls
+  treated_joins : (P : ℕ → Type 0) {kept is held : List ℕ} {ls : List Verdict} → Treats rs ps kept is ls held → AllByRecursion P kept → AllByRecursion P held → AllByRecursion (Joins P) ls
   treated_joins P none_left k h = tt
   treated_joins P (is_true c t) k h = (tt, treated_joins P t k h)
   treated_joins P (is_false c t) k h = (tt, treated_joins P t k h)
@@ -93,21 +93,21 @@ module _ {rs : List Record} {ps : List (Accepted Bool)} where
   treated_joins P (is_open a b c t) k h = treated_joins P t (h.0, k) h.1
 
   -- and that is earlier
-  treated_backward : {kept is held : List ℕ} {ls : List Verdict} → Treats rs ps kept is ls held → Pairwise ◌<◌ is → All (λ i. All (λ j. j < i) kept) is → All Backward ls
+  treated_backward : {kept is held : List ℕ} {ls : List Verdict} → Treats rs ps kept is ls held → Pairwise ◌<◌ is → AllByRecursion (λ i. AllByRecursion (λ j. j < i) kept) is → AllByRecursion Backward ls
   treated_backward none_left o k = tt
   treated_backward (is_true c t) o k = (tt, treated_backward t o.1 k.1)
   treated_backward (is_false c t) o k = (tt, treated_backward t o.1 k.1)
   treated_backward (is_same {i = i} {j = j} {kept = kept} m c t) o k = (all-has (λ j. j < i) kept j k.0 m, treated_backward t o.1 k.1)
   treated_backward (is_open {i = i} {kept = kept} {is = is} a b c t) o k = treated_backward t o.1 (both is o.0 k.1)
     where
-      both : (xs : List ℕ) → All (λ n. i < n) xs → All (λ n. All (λ j. j < n) kept) xs → All (λ n. All (λ j. j < n) (i ∷ kept)) xs
+      both : (xs : List ℕ) → AllByRecursion (λ n. i < n) xs → AllByRecursion (λ n. AllByRecursion (λ j. j < n) kept) xs → AllByRecursion (λ n. AllByRecursion (λ j. j < n) (i ∷ kept)) xs
       both [] a b = tt
       both (x ∷ xs) a b = ((a.0, b.0), both xs a.1 b.1)
 
 -- the verdicts are so under every continuation
 treated_sound : (rs : List Record) (p : Accepted Bool) (ps : List (Accepted Bool)) (ρ : Stream Bool) → Begins ρ (p ∷ ps) →
     {kept is held : List ℕ} {ls : List Verdict} → Treats rs (p ∷ ps) kept is ls held →
-    All (λ i. i < suc (length ps)) is → All (λ i. i < suc (length ps)) kept → All (Truthful rs ρ) ls
+    AllByRecursion (λ i. i < suc (length ps)) is → AllByRecursion (λ i. i < suc (length ps)) kept → AllByRecursion (Truthful rs ρ) ls
 treated_sound rs p ps ρ b none_left h k = tt
 treated_sound rs p ps ρ b (is_true {i = i} c t) h k = (sound_true rs p ps i (omega (arith, h.0)) c ρ b, treated_sound rs p ps ρ b t h.1 k)
 treated_sound rs p ps ρ b (is_false {i = i} c t) h k = (sound_false rs p ps i (omega (arith, h.0)) c ρ b, treated_sound rs p ps ρ b t h.1 k)
@@ -117,11 +117,11 @@ treated_sound rs p ps ρ b (is_same {i = i} {j = j} {kept = kept} m c t) h k =
 treated_sound rs p ps ρ b (is_open a c d t) h k = treated_sound rs p ps ρ b t h.1 (h.0, k)
 
 -- the points that are treated when one more is accepted stand earliest first
-ordered_push : (xs : List ℕ) (n : ℕ) → Pairwise ◌<◌ xs → All (λ i. i < n) xs → Pairwise ◌<◌ (xs ++ (n ∷ []))
+ordered_push : (xs : List ℕ) (n : ℕ) → Pairwise ◌<◌ xs → AllByRecursion (λ i. i < n) xs → Pairwise ◌<◌ (xs ++ (n ∷ []))
 ordered_push [] n o h = (tt, tt)
 ordered_push (x ∷ xs) n o h = (All-append (λ i. x < i) xs (n ∷ []) o.0 (h.0, tt), ordered_push xs n o.1 h.1)
 
-none_kept : (xs : List ℕ) → All (λ i. All (λ j. j < i) []) xs
+none_kept : (xs : List ℕ) → AllByRecursion (λ i. AllByRecursion (λ j. j < i) []) xs
 none_kept [] = tt
 none_kept (x ∷ xs) = (tt, none_kept xs)
 
@@ -162,8 +162,8 @@ run_law rs ps ls held fitted = record {
 run_law rs ps ls held (accepts {p = p} {ps = qs} {before = before} {now = now} {old = old} r rise t) =
     let law = run_law rs qs before old r in
     let n = length qs in
-    let earlier : All (λ i. i < n) old = All-weaker (Undecided rs qs) (λ i. i < n) (λ i h. h.accepted) old law.undecided in
-    let accepted : All (λ i. i < suc n) (old ++ (n ∷ [])) = All-append (λ i. i < suc n) old (n ∷ []) (All-weaker (λ i. i < n) (λ i. i < suc n) (λ i h. omega arith) old earlier) (omega arith, tt) in
+    let earlier : AllByRecursion (λ i. i < n) old = All-weaker (Undecided rs qs) (λ i. i < n) (λ i h. h.accepted) old law.undecided in
+    let accepted : AllByRecursion (λ i. i < suc n) (old ++ (n ∷ [])) = All-append (λ i. i < suc n) old (n ∷ []) (All-weaker (λ i. i < n) (λ i. i < suc n) (λ i h. omega arith) old earlier) (omega arith, tt) in
     let order = ordered_push old n law.ordered earlier in
     record {
       sound = λ ρ b. All-append (Truthful rs ρ) before now (law.sound ρ b.2) (treated_sound rs p qs ρ b t accepted tt);

@@ -1,6 +1,6 @@
 -- The points that a draw treats are treated as the law of runs has it, and held points are carried.
 use Rattle.std.proofs.Common.{◌≡◌, ℕ, suc, ◌+◌, ◌<◌, ◌≤◌, Bool, true, false, cond, List, [], ◌∷◌, ◌++◌, map, length, Some, None, Option, sym, refl, ap, ◌∙◌, subst, arith}
-use Rattle.std.specs.List.{ContainsAt as Has, AllByRecursion as All}
+use Rattle.std.specs.List.{ContainsAt as Has, AllByRecursion}
 use Rattle.std.proofs.lemmas.List.{append-nil, append_assoc, length_push}
 use Rattle.std.proofs.ByRecursion.{All-append, all-has, All-weaker, has_append_left, has_append_right, has_push}
 use Rattle.std.proofs.lemmas.Bool.{both_ways}
@@ -105,7 +105,7 @@ module _ (rs : List Record) (few : waits rs ≤ wait_count) (ps : List (Accepted
       same : (v : ℕ → Bool) → open_at rs ps i v ≡ open_at rs ps number v
 
     abbrev Sought : List ℕ → Option Point → Type 0
-    Sought is None = All (λ j. Different rs ps j i) is
+    Sought is None = AllByRecursion (λ j. Different rs ps j i) is
     Sought is (Some q) = Found is q
 
     sought : (hs : List HeldPoint) (is : List ℕ) → Stand rs ps hs is → Sought is (found h.condition hs)
@@ -132,7 +132,7 @@ module _ (rs : List Record) (few : waits rs ≤ wait_count) (ps : List (Accepted
   line_more xs l m ys zs e q = e ∙ append_assoc xs (l ∷ []) ys ∙ ap (λ x. xs ++ (x ∷ ys)) q
 
   pub treats_all : (hs : List HeldPoint) (is : List ℕ) → Stand rs ps hs is → (t : Treated) (kept keys : List ℕ) → Stand rs ps t.held kept →
-      All (Has kept) keys → All (Has keys) kept → Outcome keys kept is t (treated_all t hs)
+      AllByRecursion (Has kept) keys → AllByRecursion (Has keys) kept → Outcome keys kept is t (treated_all t hs)
   treats_all [] [] a t kept keys s sub sup = record {
     verdicts = [];
     held = [];
@@ -147,7 +147,7 @@ module _ (rs : List Record) (few : waits rs ≤ wait_count) (ps : List (Accepted
       (treats_all hs is a.1)
     where
       go : (x : Bool) → alike h.condition openly.always ≡ x → (y : Bool) → alike h.condition openly.never ≡ y → (o : Option Point) → Sought h i a.0 kept o →
-          ((t : Treated) (kept keys : List ℕ) → Stand rs ps t.held kept → All (Has kept) keys → All (Has keys) kept → Outcome keys kept is t (treated_all t hs)) →
+          ((t : Treated) (kept keys : List ℕ) → Stand rs ps t.held kept → AllByRecursion (Has kept) keys → AllByRecursion (Has keys) kept → Outcome keys kept is t (treated_all t hs)) →
           Outcome keys kept (i ∷ is) t (treated_all (cond x (said t (True h.point)) (cond y (said t (False h.point)) (joined_or_held t h o))) hs)
       go true ex y ey o f rec =
           let u = said t (True h.point) in
@@ -206,7 +206,7 @@ module _ (rs : List Record) (sound : Earlier rs) (few : waits rs ≤ wait_count)
     tabled = λ n k. r n k ∙ sym (carried_table rs sound p ps i _ lt);
   }
 
-  pub stand_carried : (hs : List HeldPoint) (is : List ℕ) → All (λ i. i < length ps) is → Stand rs ps hs is → Stand rs (p ∷ ps) (carried_points ws hs) is
+  pub stand_carried : (hs : List HeldPoint) (is : List ℕ) → AllByRecursion (λ i. i < length ps) is → Stand rs ps hs is → Stand rs (p ∷ ps) (carried_points ws hs) is
   stand_carried [] [] l a = tt
   stand_carried [] (i ∷ is) l a = absurd a
   stand_carried (h ∷ hs) [] l a = absurd a

@@ -1,6 +1,6 @@
 -- Watches that are wrong keep no promise.
 use Rattle.std.proofs.Common.{◌≡◌, ℕ, zero, suc, ◌+◌, ◌<◌, ◌≤◌, Bool, true, false, cond, eqb, ltb, leb, List, [], ◌∷◌, map, length, Ok, Err, count_by, sym, refl, ap, ◌∙◌, subst, arith}
-use Rattle.std.specs.List.{AllByRecursion as All}
+use Rattle.std.specs.List.{AllByRecursion}
 use Rattle.std.proofs.lemmas.Bool.{cond-true, eqb-true, le-leb, leb-false, lt-ltb}
 use Rattle.feed.specs.declared.entry.Entry.{Entry}
 use Rattle.feed.specs.declared.entry.Sample.{Sample}
@@ -68,7 +68,7 @@ dark_true ρ b (true_at i) e t =
 dark_true ρ b (false_at i) e t = no cc
 dark_true ρ b (joined i j) e t = no cc
 
-dark_lines : (vs : List Verdict) → True (at 5 0) ∷ [] ≡ map (line_of dark) vs → ((ρ : Stream Bool) → Begins ρ dark → All (Truthful lit ρ) vs) → ⊥
+dark_lines : (vs : List Verdict) → True (at 5 0) ∷ [] ≡ map (line_of dark) vs → ((ρ : Stream Bool) → Begins ρ dark → AllByRecursion (Truthful lit ρ) vs) → ⊥
 dark_lines [] e t = no cc
 dark_lines (v ∷ vs) e t =
     let c : (ρ : Stream Bool) × Begins ρ dark = continues (point_of (record { stamp = 5; letters = 0 })) [] tt in
@@ -90,7 +90,7 @@ both_joined ρ b (joined i j) e t =
     let back : Sat ρ (rule lit) 0 → Sat ρ (rule lit) 1 = subst (λ k. Sat ρ (rule lit) 0 → Sat ρ (rule lit) k) i-is (subst (λ k. Sat ρ (rule lit) k → Sat ρ (rule lit) i) j-is t.1) in
     true_false (ρ.letters 1 0) (lit_sat ρ 1 (back (sat_lit ρ 0 (b.2.1 0)))) (b.1 0)
 
-both_lines : (l : Line) (vs : List Verdict) → l ∷ Joined (at 5 1) (at 5 0) ∷ [] ≡ map (line_of both) vs → ((ρ : Stream Bool) → Begins ρ both → All (Truthful lit ρ) vs) → ⊥
+both_lines : (l : Line) (vs : List Verdict) → l ∷ Joined (at 5 1) (at 5 0) ∷ [] ≡ map (line_of both) vs → ((ρ : Stream Bool) → Begins ρ both → AllByRecursion (Truthful lit ρ) vs) → ⊥
 both_lines l [] e t = no cc
 both_lines l (v ∷ []) e t = no cc
 both_lines l (v ∷ w ∷ vs) e t =
@@ -105,7 +105,7 @@ unfolding formulas settings condition of_point newest
 dark_decided zero u = u.not_false (λ v. refl)
 dark_decided (suc i) u = let lt = u.accepted in omega arith
 
-dark_silent : (hs : List HeldPoint) (is : List ℕ) → Stand lit dark hs is → All (Undecided lit dark) is → length hs ≡ 1 → ⊥
+dark_silent : (hs : List HeldPoint) (is : List ℕ) → Stand lit dark hs is → AllByRecursion (Undecided lit dark) is → length hs ≡ 1 → ⊥
 dark_silent [] is s u n = omega arith
 dark_silent (h ∷ hs) [] s u n = s
 dark_silent (h ∷ hs) (i ∷ is) s u n = dark_decided i u.0

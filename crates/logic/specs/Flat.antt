@@ -1,6 +1,6 @@
 -- Flat rules, and how many points they can hold.
 use Rattle.std.specs.Prelude.{◌≡◌, ℕ, suc, ◌-◌, ◌*◌, ◌^◌, ◌<◌, ◌≤◌, max, Bool, true, false, List, [], ◌∷◌, length, count_by}
-use Rattle.std.specs.List.{AllByRecursion as All}
+use Rattle.std.specs.List.{AllByRecursion}
 use Rattle.rule.specs.declared.record.Record.{Record}
 use Rattle.rule.specs.declared.record.Record.TheVariants as kind
 use Rattle.rule.specs.Intervals.{last_shift}
@@ -57,9 +57,9 @@ Different rs ps i j = Not ((v : ℕ → Bool) → open_at rs ps i v ≡ open_at 
 -- any two of a list, the earlier and the later, are so related
 abbrev pub Pairwise : {X : Type 0} → (X → X → Type 0) → List X → Type 0
 Pairwise R [] = Unit {0}
-Pairwise R (x ∷ xs) = All (R x) xs × Pairwise R xs
+Pairwise R (x ∷ xs) = AllByRecursion (R x) xs × Pairwise R xs
 
 -- points of a flat rule whose conditions are open and pairwise different are few
 abbrev pub FewHeld : Type 0
 FewHeld = (rs : List Record) (p : Accepted Bool) (ps : List (Accepted Bool)) (is : List ℕ) → Rising (p ∷ ps) → Flat (rule rs) →
-    All (Undecided rs (p ∷ ps)) is → Pairwise (Different rs (p ∷ ps)) is → length is ≤ (2 ^ (2 ^ futures rs) - 2) * suc (longest rs)
+    AllByRecursion (Undecided rs (p ∷ ps)) is → Pairwise (Different rs (p ∷ ps)) is → length is ≤ (2 ^ (2 ^ futures rs) - 2) * suc (longest rs)

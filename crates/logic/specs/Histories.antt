@@ -1,6 +1,6 @@
 -- Histories of a watch: any draws from a newly fitted one, and what holds of the state, the entries and the lines after each.
 use Rattle.std.specs.Prelude.{◌≡◌, ℕ, suc, ◌+◌, ◌-◌, ◌*◌, ◌^◌, ◌<◌, ◌≤◌, Bool, true, false, cond, not, ◌⊎◌, List, [], ◌∷◌, ◌++◌, map, reverse, length, Some, None, Ok, Err, count_by, Option, Result, nat_eq, nat_lt}
-use Rattle.std.specs.List.{ContainsAt as Has, AllByRecursion as All}
+use Rattle.std.specs.List.{ContainsAt as Has, AllByRecursion}
 use Rattle.truth.specs.declared.table.Condition.{Condition}
 use Rattle.feed.specs.declared.entry.Entry.{Entry}
 use Rattle.feed.specs.declared.entry.Sample.{Sample}
@@ -138,7 +138,7 @@ pub record KeptPromise (rs : List Record) (slots : ℕ) (start : List Entry) (st
   pub values : HasComponents rs (points_of log) st.values
   pub held : Stand rs (points_of log) st.held numbers
   -- under every stream that begins with the accepted points, what each line says is so
-  pub truthful : (ρ : Stream Bool) → Begins ρ (points_of log) → All (Truthful rs ρ) verdicts
+  pub truthful : (ρ : Stream Bool) → Begins ρ (points_of log) → AllByRecursion (Truthful rs ρ) verdicts
   -- no entry is lost: the entries are those drawn, in order, and then those still to come
   pub nothing_lost : start ≡ map (λ l. l.entry) log ++ rest
   -- the counts are right
@@ -150,17 +150,17 @@ pub record KeptPromise (rs : List Record) (slots : ℕ) (start : List Entry) (st
   pub once : (i : ℕ) → count_by (nat_eq i) (map subject verdicts ++ numbers) ≡ cond (nat_lt i (length (points_of log))) 1 0
   pub accepted_sum : st.accepted ≡ count_by settles_one lines + count_by joins_two lines + length st.held
   -- a point is joined to an earlier one, and joins lead from every accepted point to one that is settled or held
-  pub backward : All Backward verdicts
+  pub backward : AllByRecursion Backward verdicts
   pub leads : (i : ℕ) → i < length (points_of log) → (j : ℕ) × Leads verdicts i j × (Settled verdicts j ⊎ Has numbers j)
   -- and the rule is true at both ends of the joins or at neither
   pub shared : (ρ : Stream Bool) → Begins ρ (points_of log) → (i j : ℕ) → Leads verdicts i j →
       (Sat ρ (rule rs) i → Sat ρ (rule rs) j) × (Sat ρ (rule rs) j → Sat ρ (rule rs) i)
   -- the conditions of the held points are open, and they differ, as conditions and as tables
-  pub undecided : All (Undecided rs (points_of log)) numbers
+  pub undecided : AllByRecursion (Undecided rs (points_of log)) numbers
   pub different : Pairwise (Different rs (points_of log)) numbers
   pub apart : Pairwise (λ h k. Not (h.condition ≡ k.condition)) st.held
   -- no held point is older than the newest by more than the rule's reach
-  pub young : All (λ i. Not (Over (reach (rule rs)) (newest_stamp (points_of log) - stamp_of (points_of log) i))) numbers
+  pub young : AllByRecursion (λ i. Not (Over (reach (rule rs)) (newest_stamp (points_of log) - stamp_of (points_of log) i))) numbers
   -- a flat rule holds few points, and no rule holds more than there are slots
   pub few : Flat (rule rs) → length st.held ≤ (2 ^ (2 ^ futures rs) - 2) * suc (longest rs)
   pub within : length st.held ≤ slots

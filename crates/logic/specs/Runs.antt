@@ -1,6 +1,6 @@
 -- What a watch says over a run of accepted points, and the law of that.
 use Rattle.std.specs.Prelude.{◌≡◌, ℕ, suc, ◌+◌, ◌-◌, ◌*◌, ◌^◌, ◌<◌, ◌≤◌, Bool, true, false, cond, List, [], ◌∷◌, ◌++◌, map, length, count_by, nat_eq, nat_lt}
-use Rattle.std.specs.List.{ContainsAt as Has, AllByRecursion as All}
+use Rattle.std.specs.List.{ContainsAt as Has, AllByRecursion}
 use Rattle.rule.specs.declared.record.Record.{Record}
 use Rattle.logic.specs.Logic.{Stream, Sat, Not, Accepted, Begins}
 use Rattle.logic.specs.Tables.{rule}
@@ -31,7 +31,7 @@ pub data Treats (rs : List Record) (ps : List (Accepted Bool)) : List ℕ → Li
   is_same : {i j : ℕ} {kept is held : List ℕ} {ls : List Verdict} → Has kept j → ((v : ℕ → Bool) → open_at rs ps i v ≡ open_at rs ps j v) →
       Treats rs ps kept is ls held → Treats rs ps kept (i ∷ is) (joined i j ∷ ls) held
   is_open : {i : ℕ} {kept is held : List ℕ} {ls : List Verdict} → Not ((v : ℕ → Bool) → open_at rs ps i v ≡ true) →
-      Not ((v : ℕ → Bool) → open_at rs ps i v ≡ false) → All (λ j. Different rs ps j i) kept →
+      Not ((v : ℕ → Bool) → open_at rs ps i v ≡ false) → AllByRecursion (λ j. Different rs ps j i) kept →
       Treats rs ps (i ∷ kept) is ls held → Treats rs ps kept (i ∷ is) ls (i ∷ held)
 
 -- a run: the accepted points, newest first, all verdicts so far, and the points held now, earliest first
@@ -60,15 +60,15 @@ Joins P (joined i j) = P j
 
 pub record Lawful (rs : List Record) (ps : List (Accepted Bool)) (ls : List Verdict) (held : List ℕ) : Type 0 where
   -- every verdict is so under every endless continuation
-  pub sound : (ρ : Stream Bool) → Begins ρ ps → All (Truthful rs ρ) ls
+  pub sound : (ρ : Stream Bool) → Begins ρ ps → AllByRecursion (Truthful rs ρ) ls
   -- each accepted point is settled, joined or held, once, and no other point is
   pub once : (i : ℕ) → count_by (nat_eq i) (map subject ls ++ held) ≡ cond (nat_lt i (length ps)) 1 0
   -- so the verdicts and the held points are as many as the accepted points
   pub total : length ls + length held ≡ length ps
-  pub backward : All Backward ls
+  pub backward : AllByRecursion Backward ls
   -- the held points stand earliest first, and their conditions are open and different
   pub ordered : Pairwise ◌<◌ held
-  pub undecided : All (Undecided rs ps) held
+  pub undecided : AllByRecursion (Undecided rs ps) held
   pub apart : Pairwise (Different rs ps) held
 
 abbrev pub RunLaw : Type 0
@@ -76,12 +76,12 @@ RunLaw = (rs : List Record) (ps : List (Accepted Bool)) (ls : List Verdict) (hel
 
 -- a point is joined only to one that is held after the same points are treated
 abbrev pub JoinsHeld : Type 0
-JoinsHeld = (rs : List Record) (ps : List (Accepted Bool)) (is held : List ℕ) (ls : List Verdict) → Treats rs ps [] is ls held → All (Joins (Has held)) ls
+JoinsHeld = (rs : List Record) (ps : List (Accepted Bool)) (is held : List ℕ) (ls : List Verdict) → Treats rs ps [] is ls held → AllByRecursion (Joins (Has held)) ls
 
 -- no held point is older than the newest by more than the reach
 abbrev pub HeldYoung : Type 0
 HeldYoung = (rs : List Record) (p : Accepted Bool) (ps : List (Accepted Bool)) (ls : List Verdict) (held : List ℕ) → Run rs (p ∷ ps) ls held →
-    All (λ i. Not (Over (reach (rule rs)) (p.stamp - stamp_of (p ∷ ps) i))) held
+    AllByRecursion (λ i. Not (Over (reach (rule rs)) (p.stamp - stamp_of (p ∷ ps) i))) held
 
 -- a flat rule holds few points
 abbrev pub RunFew : Type 0
