@@ -1,7 +1,7 @@
 #!/usr/bin/env python3
 """Judges random cards by random rules, and compares with what the program prints.
 
-Usage: tests/evaluate.py [--program PATH] [--cases N] [--seed S]
+Usage: tests/evaluate.py [--looking-back] [--program PATH] [--cases N] [--seed S]
        tests/evaluate.py --self-test
 
 Two checks, both written from docs/ alone:
@@ -11,6 +11,9 @@ Two checks, both written from docs/ alone:
    setting of the waits after the newest point.
 2. The definition of truth. Each verdict and each joining of two points is held against the table in docs/LOGIC.md, read
    on the accepted points followed by a long random continuation. This check knows no waits and no conditions.
+
+The program is card_to_lines. With --looking-back it is log_to_lines, which judges by the instant watch and refuses rules
+that look ahead. `rt run` in the program's crate proves and builds it.
 
 The first disagreement is printed with its rule and card, and the exit code is 1.
 """
@@ -22,7 +25,8 @@ import sys
 import tempfile
 
 ROOT = os.path.dirname(os.path.dirname(os.path.abspath(__file__)))
-PROGRAM = os.path.join(ROOT, "target", "bin", "log_to_lines")
+PROGRAM = os.path.join(ROOT, "crates", "card_to_lines", "out", "card_to_lines")
+LOOKING_BACK = os.path.join(ROOT, "crates", "log_to_lines", "out", "log_to_lines")
 
 TRUE, LETTER, NOT, AND, OR, PREVIOUS, SINCE, NEXT, UNTIL = range(9)
 NO_END = 255
@@ -32,6 +36,8 @@ MOST_COMPONENTS = 64
 MOST_BYTES = 60_000
 MOST_OFFSETS = 65_536
 TOP_STAMP = 2**32 - 1
+# Does the program refuse rules that look ahead?
+looking_back = False
 
 
 # The rule table.
@@ -79,6 +85,8 @@ def refusal(rule):
             return 4
         if kind >= PREVIOUS and not (low <= 20 and (low <= high <= 20 or high == NO_END)):
             return 5
+    if looking_back and any(record[0] in (NEXT, UNTIL) for record in records):
+        return 9
     if wait_count(records) > MOST_WAITS:
         return 6
     if component_count(records) > MOST_COMPONENTS:
@@ -393,7 +401,7 @@ def looks_ahead(records):
 
 def allowed_rule(rng, waits=MOST_WAITS, components=MOST_COMPONENTS):
     """A table that passes; with higher limits it may fail only the questions 6 and 7. Most look ahead."""
-    wanted = rng.random() < 0.85
+    wanted = rng.random() < (0 if looking_back else 0.85)
     while True:
         records = allowed_records(rng, waits, components)
         if looks_ahead(records) or not wanted:
@@ -403,7 +411,7 @@ def allowed_rule(rng, waits=MOST_WAITS, components=MOST_COMPONENTS):
 def allowed_records(rng, waits, components):
     size = rng.choice([1, 2, 3, 4, 5, 6, 7, 8, 9, 10, 12, 16, 24, 32])
     letters = rng.choice([1, 2, 2, 3, 3, 4, 12])
-    future = rng.choice([0, 1, 1, 2, 3])
+    future = rng.choice([0, 0, 0, 0, 1] if looking_back else [0, 1, 1, 2, 3])
     basic = rng.randint(1, 3)
     records = []
     for place in range(size):
@@ -685,16 +693,20 @@ def self_test(cases, seed):
 
 
 def main():
+    global looking_back
     parser = argparse.ArgumentParser(description="Compares the program with an evaluator of its own.")
-    parser.add_argument("--program", default=PROGRAM, help="the program to be run")
+    parser.add_argument("--program", help="the program to be run")
     parser.add_argument("--cases", type=int, default=500)
     parser.add_argument("--seed", type=int, default=1)
     parser.add_argument("--self-test", action="store_true", help="run the worked runs, without the program")
+    parser.add_argument("--looking-back", action="store_true", help="the program refuses rules that look ahead")
     options = parser.parse_args()
+    looking_back = options.looking_back
+    program = options.program or (LOOKING_BACK if looking_back else PROGRAM)
     if options.self_test:
         self_test(options.cases, options.seed)
     else:
-        compare(os.path.abspath(options.program), options.cases, options.seed)
+        compare(os.path.abspath(program), options.cases, options.seed)
 
 
 main()

@@ -1,14 +1,14 @@
 // The plain kind: yes and no.
 ghost use Rattle.truth.specs.Laws.{Laws, Ops, Splits};
 ghost use Rattle.truth.specs.Plain.{plainly};
-ghost use Rattle.std.proofs.Common.{rules};
+ghost use Rattle.truth.specs.Plainly.{plain_laws, plain_splits};
 
 use crate::kind::{Boolean, Truth};
 
 impl Truth for bool {
     ghost ops = { plainly };
 
-    ghost laws = { Prim.search rules };
+    ghost laws = { plain_laws };
 
     fn never() -> bool {
         false
@@ -36,5 +36,5 @@ impl Truth for bool {
 }
 
 impl Boolean for bool {
-    ghost splits = { Prim.search rules };
+    ghost splits = { plain_splits };
 }
