@@ -7,7 +7,7 @@ use Rattle.rule.specs.declared.record.Record.{Record}
 use Rattle.logic.specs.declared.verdict.Line.{Line}
 use Rattle.logic.specs.States.{State, fitted}
 use Rattle.logic.specs.Draws.{draw_answer, draw_lines, draw_rest, draw_state, held_count, held_name}
-use Rattle.logic.specs.Histories.{KeptPromise, Logged, logged}
+use Rattle.logic.specs.Histories.{KeptPromise, Logged, Reached, logged}
 use Rattle.watch.specs.declared.call.Answer.{Answer}
 use Rattle.watch.specs.declared.call.Answer.TheVariants as answers
 use Rattle.watch.specs.declared.call.Call.{Call}
@@ -85,6 +85,10 @@ moved_on s c = record {
 abbrev pub stages : Stage → List Call → Stage
 stages s [] = s
 stages s (c ∷ cs) = stages (moved_on s c) cs
+
+-- draws alone lead to a stage from a fresh fitting over the entries `start`
+abbrev pub Led : List Record → ℕ → List Entry → Stage → Type 0
+Led rs slots start s = Reached rs slots start s.state s.rest s.log s.lines
 
 -- the promise is kept at a stage
 abbrev pub Kept : List Record → ℕ → List Entry → Stage → Type 0

@@ -3,7 +3,7 @@ ghost use Rattle.std.specs.Prelude.{◌≡◌, ℕ, min, List, length, take, Ok}
 ghost use Rattle.feed.specs.Lists.{onto};
 ghost use Rattle.rule.specs.Reading.{asked, read_table, watch_questions};
 ghost use Rattle.rule.specs.declared.record.Record.{Record};
-ghost use Rattle.watch.specs.Calls.{Kept, answer_to, drawing_of, entries_after, newly_fitted, played, run_answer, stage_at, stages, state_after};
+ghost use Rattle.watch.specs.Calls.{Kept, Led, answer_to, drawing_of, entries_after, newly_fitted, played, run_answer, stage_at, stages, state_after};
 ghost use Rattle.watch.specs.States.{state};
 
 use crate::call::{Answer, Call};
@@ -39,7 +39,8 @@ impl Watch {
     }
 
     // Makes the calls on a newly fitted watch, as many as there are places for their answers; what is left of the answers
-    // stays. A refused fitting alters nothing. After each call the promise over every history is kept.
+    // stays. A refused fitting alters nothing. After each call draws alone have led from a fresh fitting to what there is, and
+    // the promise over every history is kept.
     pub fn run<F: Feed>(
         &mut self,
         bytes: &[u8],
@@ -52,6 +53,7 @@ impl Watch {
         ensures state { state self.new ≡ (played (asked (watch_questions slots) (read_table bytes.now)) slots (state self.old) (F.Feed.entries feed.old) (take (min (length calls.now) (length answers.old)) calls.now)).state }
         ensures entries { F.Feed.entries feed.new ≡ (played (asked (watch_questions slots) (read_table bytes.now)) slots (state self.old) (F.Feed.entries feed.old) (take (min (length calls.now) (length answers.old)) calls.now)).rest }
         ensures answers { answers.new ≡ onto (played (asked (watch_questions slots) (read_table bytes.now)) slots (state self.old) (F.Feed.entries feed.old) (take (min (length calls.now) (length answers.old)) calls.now)).answers answers.old }
+        ensures reached { (rs : List Record) → asked (watch_questions slots) (read_table bytes.now) ≡ Ok rs → (k : ℕ) → Led rs slots (F.Feed.entries feed.old) (stages (newly_fitted rs slots (F.Feed.entries feed.old)) (take k calls.now)) }
         ensures promise { (rs : List Record) → asked (watch_questions slots) (read_table bytes.now) ≡ Ok rs → (k : ℕ) → Kept rs slots (F.Feed.entries feed.old) (stages (newly_fitted rs slots (F.Feed.entries feed.old)) (take k calls.now)) }
     {
         match self.fit(bytes, slots) {

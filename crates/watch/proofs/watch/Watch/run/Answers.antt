@@ -4,7 +4,7 @@ use Rattle.feed.specs.Lists.{onto}
 use Rattle.rule.specs.Reading.{asked, read_table, records, watch_questions}
 use Rattle.watch.specs.States.{state}
 use Rattle.watch.specs.Calls.{Played, run_answer, stage_at, stages}
-use Rattle.watch.proofs.Calling.{bad_played, bad_run, bad_state, fitted_table, good_played, good_run, kept_stages, never_both}
+use Rattle.watch.proofs.Calling.{bad_played, bad_run, bad_state, fitted_table, good_played, good_run, kept_stages, never_both, stages_reached}
 use Rattle.watch.proofs.watch.Watch.run.Goals as goal
 
 pub returns-in-Ok : goal.returns-in-Ok
@@ -29,6 +29,7 @@ returns-in-Ok g c =
       state = c.make_calls.ensures.state ∙ ap (λ k. (stages (stage_at st es) (take k calls)).state) count ∙ ap (λ (p : Played). p.state) whole;
       entries = c.make_calls.ensures.entries ∙ ap (λ k. (stages (stage_at st es) (take k calls)).rest) count ∙ ap (λ (p : Played). p.rest) whole;
       answers = c.make_calls.ensures.answers ∙ ap (λ k. onto (stages (stage_at st es) (take k calls)).answers S) count ∙ ap (λ (p : Played). onto p.answers S) whole;
+      reached = λ rs e k. stages_reached rs slots es (take k calls);
       promise = λ rs e k. kept_stages rs (records w.rule) slots es (fitted_table x slots old st es rs e fitting) w.rule.sound w.few_waits some (take k calls);
     }
 
@@ -50,5 +51,6 @@ returns-in-Err g c =
       state = bad_state x slots old st es f fine c.fit.ensures.state ∙ ap (λ (p : Played). p.state) whole;
       entries = ap (λ (p : Played). p.rest) whole;
       answers = ap (λ (p : Played). onto p.answers S) whole;
+      reached = λ rs e k. never_both x slots old st es f rs fine e;
       promise = λ rs e k. never_both x slots old st es f rs fine e;
     }
