@@ -1,14 +1,14 @@
 #!/usr/bin/env python3
 """Plants bugs in the crates, one at a time, and asks the prover about each.
 
-Usage: tests/plant.py [--crate NAME] [--edits] [--only WORD] [--table]
+Usage: tests/plant.py [--crate NAME] [--table]
 
-The bugs are those of tests/planted.txt; with --edits those of the crates' must-fail folders. Every crate has to be proved first
-(rt check), since a bug is tried over what that check left in target/. For each bug the function is printed whose proof is refused first, and
-which of its promises: what it ensures, what a callee requires, an invariant of its loop. A bug that is still proved is a gap in a contract,
-and the exit code is then 1. With --table the lines are those of the table in docs/PLANTED-BUGS.md.
+The bugs are those of tests/planted.txt. In a copy of the repository each becomes an edit that must be refused, and `rt must-fail` tries them.
+For each bug the first fact is printed that no longer holds, with the place in the code or in the proof. A bug that is still proved is a gap in a
+contract, and one whose text does not fit shows nothing: the exit code is then 1. With --table the lines are those of a table.
 """
 import argparse
+import glob
 import os
 import re
 import shutil
@@ -17,18 +17,6 @@ import sys
 import tempfile
 
 ROOT = os.path.dirname(os.path.dirname(os.path.abspath(__file__)))
-KIT = os.path.dirname(os.path.dirname(subprocess.check_output(["rt", "doc"], text=True).strip()))
-
-
-def dependencies():
-    """The crates that each crate rests on, from crates.txt."""
-    found = {}
-    for line in open(os.path.join(ROOT, "crates.txt")):
-        line = line.split("#")[0].strip()
-        if line:
-            name, rest = line.split(":")
-            found[name.strip()] = rest.split()
-    return found
 
 
 def planted():
@@ -47,106 +35,39 @@ def planted():
             yield crate, bug["bug"], bug["file"], bug["old"], bug["new"]
 
 
-def edits():
-    for crate in dependencies():
-        folder = os.path.join(ROOT, "crates", crate, "must-fail")
-        for name in sorted(os.listdir(folder)) if os.path.isdir(folder) else []:
-            if name.endswith(".edit"):
-                parts = dict(line.rstrip("\n").split(": ", 1) if ": " in line else (line.rstrip("\n").rstrip(":"), "") for line in open(os.path.join(folder, name)))
-                yield crate, name[:-5], parts["file"], parts["old"], parts.get("new", "")
-
-
-def check(crate, folder, deps):
-    """Runs the prover on a crate that stands in a folder of its own."""
-    root = os.path.join(folder, "src", "main.rt")
-    if not os.path.exists(root):
-        root = os.path.join(folder, "src", "lib.rt")
-    words = [f"{KIT}/bin/rattle", "check", "--crate-name", crate, root, "--extern", f"std={KIT}/rlib/std.rlib"]
-    for dep in deps:
-        words += ["--extern", f"{dep}={ROOT}/target/rlib/{dep}.rlib"]
-    words += ["-L", f"dependency={ROOT}/target/rlib", "-L", f"dependency={KIT}/rlib"]
-    words += ["--antt-project", f"{KIT}/logic/antt-project.json", "--logic-built", f"{KIT}/logic-built"]
-    kept = os.path.join(folder, "kept")
-    os.makedirs(kept, exist_ok=True)
-    return subprocess.run(words + ["--incremental", kept], capture_output=True, text=True)
-
-
-def promise(need):
-    """What a need of the prover is about, by its name."""
-    for pattern, words in (
-        (r"returns", "what it ensures"),
-        (r".*-requires", "what a callee requires"),
-        (r"loop-.*-(again|holds)", "an invariant of its loop"),
-        (r"loop-.*-less", "that its loop ends"),
-        (r"ghost-", "an invariant of the type"),
-        (r"(part|index)-", "that a part is within its whole"),
-    ):
-        if re.match(pattern, need):
-            return words
-    return f"`{need}`"
-
-
-def refused_by(text, folder):
-    """The function whose proof is refused first, and which of its promises."""
-    note = re.search(r"^note: \S+?:\d+:\d+: it is not proved .*?\(`([^`]+)`\)", text, re.M)
-    error = re.search(r"^\S*?/proofs/(\S+)/Answers.antt:\d+:\d+: error: `([^`]+)`: (.*)", text, re.M)
-    if note and not (error and error.start() < note.start()):
-        name = re.compile(r"^fn (\S+): no proof: .*does not close .*`" + re.escape(note.group(1)) + "`", re.M).search(text)
-        return (name.group(1).split("::", 1)[1] if name else "?"), promise(note.group(1)), ""
-    if error:
-        unfit = "has no field" in text[error.start() : error.start() + 600] or "that can be named" in text[error.start() : error.start() + 600]
-        return error.group(1).replace("/", "::").replace("+", ""), promise(error.group(2)), " (the proof no longer fits)" if unfit else ""
-    line = re.search(r"^fn (\S+): (?:no proof|not proved).*does not close `([^`]+)`", text, re.M)
-    if line:
-        return line.group(1).split("::", 1)[1], promise(line.group(2)), ""
-    unfit = re.search(r"^\S*?/proofs/(\S+)/Answers.antt:\d+:\d+: error: (.*)", text, re.M)
-    if unfit:
-        return unfit.group(1).replace("/", "::").replace("+", ""), unfit.group(2)[:120], " (the proof no longer fits)"
-    return "?", text[:300], ""
-
-
 def main():
     parser = argparse.ArgumentParser(description="Plants bugs, and asks the prover about each.")
     parser.add_argument("--crate")
-    parser.add_argument("--edits", action="store_true", help="try the edits of the must-fail folders")
-    parser.add_argument("--only", default="")
     parser.add_argument("--table", action="store_true")
     options = parser.parse_args()
-    deps, kept, gaps, tried = dependencies(), {}, 0, 0
+    bugs = {}
     with tempfile.TemporaryDirectory() as work:
-        for crate, bug, name, old, new in edits() if options.edits else planted():
-            if options.crate not in (None, crate) or options.only not in bug:
-                continue
-            folder = os.path.join(work, crate)
-            if crate not in kept:
-                shutil.rmtree(folder, ignore_errors=True)
-                for part in ("src", "specs", "proofs"):
-                    source = os.path.join(ROOT, "crates", crate, part)
-                    if os.path.isdir(source):
-                        shutil.copytree(source, os.path.join(folder, part))
-                if check(crate, folder, deps[crate]).returncode:
-                    sys.exit(f"{crate} is not proved as it stands")
-                kept[crate] = True
-            path = os.path.join(folder, name)
-            text = open(path).read()
-            if text.count(old) != 1:
-                sys.exit(f"{crate}: {bug}: the old text stands {text.count(old)} times in {name}")
-            open(path, "w").write(text.replace(old, new))
-            done = check(crate, folder, deps[crate])
-            open(path, "w").write(text)
-            tried += 1
-            line = text[: text.index(old)].count("\n") + 1
-            if done.returncode == 1 and "logic=not-proved" in done.stdout + done.stderr:
-                function, need, remark = refused_by(done.stdout + done.stderr, folder)
-            else:
-                gaps += 1
-                function, need, remark = "NOT REFUSED", "still proved" if not done.returncode else (done.stdout + done.stderr)[-300:], ""
-            if options.table:
-                print(f"| `{crate}/{name}` | {bug} | `{function}`: {need}{remark} |", flush=True)
-            else:
-                print(f"{crate}/{name}:{line}: {bug}: {function}: {need}{remark}", flush=True)
-    print(f"{tried} tried, {gaps} not refused")
-    sys.exit(1 if gaps else 0)
+        shutil.copytree(os.path.join(ROOT, "crates"), os.path.join(work, "crates"), ignore=shutil.ignore_patterns("out"))
+        shutil.copy(os.path.join(ROOT, "crates.txt"), work)
+        for edit in glob.glob(os.path.join(work, "crates", "*", "must-fail", "*.edit")):
+            os.remove(edit)
+        for crate, bug, name, old, new in planted():
+            if options.crate in (None, crate):
+                edit = f"{crate}/planted{len(bugs)}.edit"
+                bugs[edit] = (crate, bug, name)
+                folder = os.path.join(work, "crates", crate, "must-fail")
+                os.makedirs(folder, exist_ok=True)
+                with open(os.path.join(folder, os.path.basename(edit)), "w") as file:
+                    file.write(f"file: {name}\nold: {old}\nnew: {new}\n")
+        crates = sorted({crate for crate, _, _ in bugs.values()})
+        said = subprocess.run(["rt", "must-fail", *crates], cwd=work, capture_output=True, text=True)
+    text = said.stdout + said.stderr
+    gaps = 0
+    for edit, (crate, bug, name) in bugs.items():
+        found = re.search(rf"^rt: must-fail {re.escape(edit)}: (.*)$", text, re.M)
+        line = found[1] if found else "NOT TRIED"
+        refused = re.match(r"refused, as it must be: (?:note: )?(\S+?):\d+:\d+: (.*)", line)
+        need = re.search(r"`([^`]+)`", refused[2])[1] if refused else line
+        gaps += not refused
+        shown = f"`{need}` at `{refused[1]}`" if refused else f"NOT REFUSED: {line[:200]}"
+        print(f"| `{crate}/{name}` | {bug} | {shown} |" if options.table else f"{crate}/{name}: {bug}: {shown}", flush=True)
+    print(f"{len(bugs)} tried, {gaps} not refused")
+    sys.exit(1 if gaps or not bugs else 0)
 
 
 if __name__ == "__main__":
