@@ -62,7 +62,8 @@ def main():
         found = re.search(rf"^rt: must-fail {re.escape(edit)}: (.*)$", text, re.M)
         line = found[1] if found else "NOT TRIED"
         refused = re.match(r"refused, as it must be: (?:note: )?(\S+?):\d+:\d+: (.*)", line)
-        need = (re.search(r"\(`([^`]+)`\)", refused[2]) or re.search(r"`([^`]+)`", refused[2]))[1] if refused else line
+        # rt cuts a long line, sometimes within the name
+        need = (re.search(r"\(`([^`]+)`?", refused[2]) or re.search(r"`([^`]+)`?", refused[2]) or [0, "?"])[1] if refused else line
         gaps += not refused
         shown = f"`{need}` at `{refused[1]}`" if refused else f"NOT REFUSED: {line[:200]}"
         print(f"| `{crate}/{name}` | {bug} | {shown} |" if options.table else f"{crate}/{name}: {bug}: {shown}", flush=True)

@@ -27,7 +27,7 @@ def random_rule(rng):
         return bytes(rng.randrange(256) for _ in range(rng.randrange(200)))
     table = []
     for j in range(rng.randrange(1, 9)):
-        kind = rng.randrange(7) if j else rng.randrange(2)
+        kind = rng.randrange(7 if NAME == "log_to_lines" else 9) if j else rng.randrange(2)
         left = rng.randrange(12) if kind == 1 else rng.randrange(max(j, 1)) if kind > 1 else 0
         right = rng.randrange(max(j, 1)) if kind in (3, 4, 6, 8) else 0
         low = rng.randrange(4) if kind > 4 else 0

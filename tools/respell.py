@@ -1,12 +1,12 @@
 #!/usr/bin/env python3
 """Respells the definitions, record fields and lemmas that this repository declares in specs/ and proofs/.
 
-usage: python3 tools/respell.py [--dry]      at the top, once, after /opt/rattle/port/port.py
+usage: python3 tools/respell.py [--dry] [--force]      at the top, once, after /opt/rattle/port/port.py
 
 Words get snake case, types camel case: `wait-count` becomes `wait_count`, `Sound-from` becomes `SoundFrom`. A name is respelled
-where it is declared and where it is named: in specs/, proofs/, the clauses of src/, must-fail edits, and between backticks in comments
-and pages. Names that a file takes from the library, goals, and the code's own names stay. Names that would fall together are printed, and
-then nothing is written."""
+where it is declared and where it is named: in specs/, proofs/, src/ (lines without a string), must-fail edits, and between backticks in
+comments and pages. Names that a file takes from the library, goals, and the code's own names stay. Names that would fall together are
+printed, and then nothing is written, but with --force."""
 
 import glob
 import re
