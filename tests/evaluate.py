@@ -701,6 +701,8 @@ def main():
     parser.add_argument("--self-test", action="store_true", help="run the worked runs, without the program")
     parser.add_argument("--looking-back", action="store_true", help="the program refuses rules that look ahead")
     options = parser.parse_args()
+    if options.self_test and options.looking_back:
+        parser.error("the worked runs look ahead: --self-test goes without --looking-back")
     looking_back = options.looking_back
     program = options.program or (LOOKING_BACK if looking_back else PROGRAM)
     if options.self_test:

@@ -59,7 +59,7 @@ def run(rule, card):
 
 
 def check(rule, card, text):
-    if re.fullmatch(r"rule refused [1-79]\n" if NAME == "log_to_lines" else r"rule refused [1-8]\n", text) or text == "log too long\n":
+    if re.fullmatch(r"rule refused [1-579]\n" if NAME == "log_to_lines" else r"rule refused [1-8]\n", text) or text == "log too long\n":
         return "alone"
     lines = text.splitlines(keepends=True)
     counts = COUNTS.fullmatch(lines[-1])
