@@ -1,9 +1,10 @@
 -- Conditions with the waits below one replaced: none, one more, and all.
-use Rattle.std.proofs.Common.{◌≡◌, ℕ, suc, ◌+◌, ◌-◌, ◌%◌, ◌^◌, ◌<◌, ◌≤◌, Bool, true, false, cond, not, ◌&&◌, ◌||◌, List, length, get_or, sym, refl, ap, ◌∙◌, ap₂, add-zero, zero-add, arith, rules}
+use Rattle.std.proofs.Common.{◌≡◌, ℕ, zero, suc, ◌+◌, ◌-◌, ◌%◌, ◌^◌, ◌<◌, ◌≤◌, min, Bool, true, false, cond, not, ◌&&◌, ◌||◌, List, length, get_or, sym, refl, ap, ◌∙◌, ap₂, inl, inr, add-zero, zero-add, arith, rules}
 use native.Mathlib.Nat.{two-pow-succ, add-mod_right}
 use Rattle.std.proofs.lemmas.Nat.{mod-pow-add}
 use Rattle.std.proofs.lemmas.List.{get_or_past}
-use Rattle.truth.specs.Words.{settings}
+use Rattle.std.proofs.lemmas.Bool.{cases_lt}
+use Rattle.truth.specs.Words.{settings, wait_count}
 use Rattle.truth.specs.Tables.{means, openly}
 use Rattle.truth.specs.Replacing.{packed, packed_lt, replacing, setting_of, partly, replaced}
 use Rattle.truth.specs.declared.table.Condition.{Condition}
@@ -102,6 +103,21 @@ module _ (cs : List Condition) (c : Condition) (from : ℕ) where
         (ap (λ x. means x n) es ∙ meant.both other low n h ∙ ap (λ b. b && means low n) (ap (λ x. means x n) eo ∙ meant.not d n h))
         ∙ choice (means d n) (means high n) (means low n)
         ∙ chosen d low high at el (eh ∙ ap (λ x. partly cs c (m - 1) (from + x)) eq) n h)
+
+-- waits without a condition make no difference
+part_up : (cs : List Condition) (c : Condition) (from k m : ℕ) → m + k ≡ wait_count → length cs ≤ m → partly cs c m from ≡ partly cs c wait_count from
+part_up cs c from zero m e h = let same : m ≡ wait_count = omega arith in ap (λ x. partly cs c x from) same
+part_up cs c from (suc k) m e h =
+    let less : suc m - 1 ≡ m = omega arith in
+    part_past cs c from (suc m) (omega arith) (partly cs c m from) (ap (λ x. partly cs c x from) (sym less)) (omega arith)
+    ∙ part_up cs c from k (suc m) (omega arith) (omega arith)
+
+pub part_rest : (cs : List Condition) (c : Condition) (from m : ℕ) → m ≡ min (length cs) wait_count → partly cs c m from ≡ partly cs c wait_count from
+part_rest cs c from m e =
+    elim (cases_lt (length cs) wait_count) [
+      | inl few ↦ part_up cs c from (wait_count - m) m (omega arith) (omega arith)
+      | inr many ↦ (let same : m ≡ wait_count = omega arith in ap (λ x. partly cs c x from) same)
+    ]
 
 -- every wait is replaced
 pub part_all : (cs : List Condition) (c : Condition) → partly cs c 10 0 ≡ replaced cs c

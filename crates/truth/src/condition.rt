@@ -1,5 +1,5 @@
 // Open conditions as a kind of truth: each operation goes word by word.
-ghost use Rattle.std.specs.Prelude.{◌≡◌};
+ghost use Rattle.std.specs.Prelude.{◌≡◌, Decides};
 ghost use Rattle.truth.specs.Laws.{Laws, Meant, Ops, Splits};
 ghost use Rattle.truth.specs.Plain.{plainly};
 ghost use Rattle.truth.specs.Tables.{means, openly, uniform};
@@ -15,6 +15,34 @@ fn filled(word: u64) -> Condition
 {
     Condition {
         words: [word; WORDS],
+    }
+}
+
+impl Condition {
+    // Whether every word is the same as `word`.
+    fn is_all(&self, word: u64) -> bool
+        ensures { Decides result (self.now ≡ uniform word) }
+    {
+        for i in 0..WORDS {
+            if self.words[i] != word {
+                return false;
+            }
+        }
+        true
+    }
+
+    // Whether the condition is always.
+    pub fn is_always(&self) -> bool
+        ensures { Decides result (self.now ≡ openly.always) }
+    {
+        self.is_all(u64::MAX)
+    }
+
+    // Whether the condition is never.
+    pub fn is_never(&self) -> bool
+        ensures { Decides result (self.now ≡ openly.never) }
+    {
+        self.is_all(0)
     }
 }
 

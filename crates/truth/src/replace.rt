@@ -1,5 +1,6 @@
 // Open conditions by setting: single waits, values, and all waits replaced together.
-ghost use Rattle.std.specs.Prelude.{◌≡◌, ℕ, suc, ◌+◌, ◌*◌, ◌%◌, ◌^◌, ◌<◌, ◌≤◌, true, if◌then◌else◌};
+ghost use Rattle.std.specs.Prelude.{◌≡◌, ℕ, suc, ◌+◌, ◌*◌, ◌%◌, ◌^◌, ◌<◌, ◌≤◌, true, List, length, if◌then◌else◌};
+ghost use Rattle.truth.specs.declared.table.Condition.{Condition};
 ghost use Rattle.truth.specs.Replacing.{packed, partly, replaced, waiting};
 ghost use Rattle.truth.specs.Tables.{means, openly, word};
 ghost use Rattle.truth.specs.Words.{bit, settings, wait_count, word_count};
@@ -98,28 +99,51 @@ impl Condition {
         }
     }
 
+    // How many of the lowest `waits` waits matter to the 2^`waits` settings from `from` on: all up to the highest that does.
+    fn used(&self, waits: usize, from: usize) -> usize
+        requires { (waits ≤ wait_count) × ((from + 2 ^ waits ≤ settings) × (from % 2 ^ waits ≡ 0)) }
+        ensures fewer { result ≤ waits }
+        ensures room { from + 2 ^ result ≤ settings }
+        ensures start { from % 2 ^ result ≡ 0 }
+        ensures same { (cs : List Condition) → partly cs self.now result from ≡ partly cs self.now waits from }
+    {
+        let mut used = waits;
+        while used > 0 && self.repeats(used - 1, from) {
+            used -= 1;
+        }
+        used
+    }
+
+    // `high` where this condition is true, and `low` where it is false.
+    fn choose(&self, high: &Condition, low: &Condition) -> Condition
+        ensures { result ≡ openly.either (openly.both self.now high.now) (openly.both (openly.not self.now) low.now) }
+    {
+        let mut words = [0; WORDS];
+        for i in 0..WORDS {
+            words[i] = (self.words[i] & high.words[i]) | (!self.words[i] & low.words[i]);
+        }
+        Condition { words }
+    }
+
     // The condition at the 2^`waits` settings from `from` on, with each wait below `waits` replaced.
     fn carried(&self, by: &[Condition], waits: usize, from: usize) -> Condition
-        requires { (waits ≤ wait_count) × ((from + 2 ^ waits ≤ settings) × (from % 2 ^ waits ≡ 0)) }
+        requires { (waits ≤ wait_count) × ((from + 2 ^ waits ≤ settings) × ((from % 2 ^ waits ≡ 0) × (waits ≤ length by.now))) }
         ensures { result ≡ partly by.now self.now waits from }
     {
-        if waits == 0 {
+        let used = self.used(waits, from);
+        if used == 0 {
             return constant(self.value_at(from));
         }
-        let w = waits - 1;
+        let w = used - 1;
         let low = self.carried(by, w, from);
-        if w >= by.len() || self.repeats(w, from) {
-            return low;
-        }
         let high = self.carried(by, w, from + (1 << w));
-        let chosen = by[w];
-        chosen.both(high).either(chosen.not().both(low))
+        by[w].choose(&high, &low)
     }
 
     // The condition with all waits replaced together: wait w by `by[w]`, and by never where there is none.
     pub fn replaced(&self, by: &[Condition]) -> Condition
         ensures { result ≡ replaced by.now self.now }
     {
-        self.carried(by, WAITS, 0)
+        self.carried(by, by.len().min(WAITS), 0)
     }
 }

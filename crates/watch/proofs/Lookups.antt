@@ -1,9 +1,10 @@
 -- Conditions that are the same, and the search for one among held points.
-use Rattle.std.proofs.Common.{◌≡◌, ℕ, zero, suc, ◌+◌, ◌<◌, ◌≤◌, Bool, cond, List, [], ◌∷◌, length, get_or, take, drop, Some, None, Decides, refl, ap, ◌∙◌, arith}
-use Rattle.std.proofs.lemmas.List.{at_drop_more, get_or-take, length-take-le}
+use Rattle.std.proofs.Common.{◌≡◌, ℕ, zero, suc, ◌+◌, ◌<◌, ◌≤◌, Bool, cond, List, [], ◌∷◌, length, get_or, take, drop, Some, None, Decides, Option, sym, refl, ap, ◌∙◌, arith}
+use Rattle.std.proofs.lemmas.List.{at_drop_more}
 use Rattle.std.proofs.lemmas.Bool.Decides.{same_from_decides}
 use Rattle.truth.specs.declared.table.Condition.{Condition}
 use Rattle.logic.specs.declared.verdict.HeldPoint.{HeldPoint}
+use Rattle.logic.specs.declared.verdict.Point.{Point}
 use Rattle.logic.specs.Draws.{alike, found, name_at}
 use Rattle.logic.proofs.Represented.{alike_decides}
 
@@ -11,15 +12,10 @@ use Rattle.logic.proofs.Represented.{alike_decides}
 pub alike_is : (a b : Condition) (r : Bool) → Decides r (a ≡ b) → r ≡ alike a b
 alike_is a b r d = same_from_decides r (alike a b) d (alike_decides a b)
 
--- the point at i of n, in a search for the condition c
-pub found_at : (c : Condition) (xs : List HeldPoint) (n i : ℕ) (d : HeldPoint) → i < n → n ≤ length xs →
-    found c (drop i (take n xs)) ≡ cond (alike c (get_or xs i d).condition) (Some (get_or xs i d).point) (found c (drop (i + 1) (take n xs)))
-found_at c xs n i d h l =
-    let ys = take n xs in
-    let len = length-take-le n xs l in
-    let rest = found c (drop (i + 1) ys) in
-    at_drop_more (found c) ys i d (omega arith)
-    ∙ ap (λ (x : HeldPoint). cond (alike c x.condition) (Some x.point) rest) (get_or-take n xs i d h)
+-- the point at i, in a search for the condition c
+pub found_at : (c : Condition) (xs : List HeldPoint) (i : ℕ) (d : HeldPoint) → i < length xs →
+    found c (drop i xs) ≡ cond (alike c (get_or xs i d).condition) (Some (get_or xs i d).point) (found c (drop (i + 1) xs))
+found_at c xs i d h = at_drop_more (found c) xs i d h
 
 -- the k-th of the first n, and none past them
 pub name_in : (xs : List HeldPoint) (n k : ℕ) (d : HeldPoint) → k < n → n ≤ length xs → Some (get_or xs k d).point ≡ name_at (take n xs) k

@@ -1,30 +1,125 @@
 -- One point more of those that a draw treats.
-use Rattle.std.proofs.Common.{◌≡◌, ℕ, ◌+◌, ◌<◌, ◌≤◌, List, [], ◌∷◌, ◌++◌, length, get_or, take, drop, sym, ap, ◌∙◌, arith}
-use Rattle.std.proofs.lemmas.List.{at_drop_more, at_drop_all, get_or-take, length-take-le}
-use Rattle.truth.specs.declared.table.Condition.{Condition}
-use Rattle.truth.specs.Replacing.{replaced}
+use Rattle.std.proofs.Common.{◌≡◌, ℕ, ◌+◌, ◌<◌, ◌≤◌, Bool, true, false, cond, List, [], ◌∷◌, ◌++◌, length, get_or, take, drop, set, Some, None, Option, sym, refl, ap, ◌∙◌, subst, ap₂, add-zero, arith}
+use Rattle.std.proofs.lemmas.List.{drop-drop, drop-set-lt, get_or-drop, length_push, length-set, take_all, take_at, take_more, take_more_set}
+use Rattle.feed.specs.Lists.{onto}
+use Rattle.feed.proofs.Onto.{onto_more}
+use Rattle.truth.specs.Tables.{openly}
 use Rattle.logic.specs.declared.verdict.HeldPoint.{HeldPoint}
-use Rattle.logic.specs.Draws.{Treated, treated, treated_all, carried_points}
+use Rattle.logic.specs.declared.verdict.Line.{Line}
+use Rattle.logic.specs.declared.verdict.Line.TheVariants.{True, False}
+use Rattle.logic.specs.declared.verdict.Point.{Point}
+use Rattle.logic.specs.Draws.{Treated, alike, found, joined_or_held, said, treated, treated_all}
+use Rattle.watch.specs.Treatments.{joined_to, untreated, verdict_on}
 
-module _ (ws : List Condition) (new : HeldPoint) (xs : List HeldPoint) (n i : ℕ) (long : n ≤ length xs) where
-  abbrev rest_of : Treated → List HeldPoint → Treated
-  rest_of t hs = treated_all t (carried_points ws hs ++ (new ∷ []))
+-- a point treated by its line
+abbrev by_line : Treated → HeldPoint → Option Line → Treated
+by_line t h None = record { lines = t.lines; held = t.held ++ (h ∷ []) }
+by_line t h (Some l) = said t l
 
-  -- a held point, carried
-  pub treated_more : (d : HeldPoint) (t t' goal : Treated) (c : Condition) → i < n → c ≡ replaced ws (get_or xs i d).condition
-      → t' ≡ treated t (record { point = (get_or xs i d).point; condition = c })
-      → rest_of t (drop i (take n xs)) ≡ goal → rest_of t' (drop (i + 1) (take n xs)) ≡ goal
-  treated_more d t t' goal c h e s inv =
-      let len = length-take-le n xs long in
-      let rest = drop (i + 1) (take n xs) in
-      let x : HeldPoint = get_or xs i d in
-      let held : Condition → HeldPoint = λ z. record { point = x.point; condition = z } in
-      ap (λ z. rest_of z rest) (s ∙ ap (λ z. treated t (held z)) e)
-      ∙ sym (at_drop_more (rest_of t) (take n xs) i d (omega arith) ∙ ap (λ z. rest_of t (z ∷ rest)) (get_or-take n xs i d h))
-      ∙ inv
+by_find : (t : Treated) (h : HeldPoint) (o : Option Point) → joined_or_held t h o ≡ by_line t h (joined_to h o)
+by_find t h None = refl
+by_find t h (Some p) = refl
 
-  -- all of them, and the new point
-  pub treated_end : (t t' goal : Treated) → n ≤ i → t' ≡ treated t new → rest_of t (drop i (take n xs)) ≡ goal → t' ≡ goal
-  treated_end t t' goal h e inv =
-      let len = length-take-le n xs long in
-      e ∙ sym (at_drop_all (rest_of t) (take n xs) i (omega arith)) ∙ inv
+by_tests : (t : Treated) (h : HeldPoint) (a b : Bool) (o : Option Point) →
+    cond a (said t (True h.point)) (cond b (said t (False h.point)) (joined_or_held t h o))
+    ≡ by_line t h (cond a (Some (True h.point)) (cond b (Some (False h.point)) (joined_to h o)))
+by_tests t h true b o = refl
+by_tests t h false true o = refl
+by_tests t h false false o = by_find t h o
+
+treated_by : (t : Treated) (h : HeldPoint) → treated t h ≡ by_line t h (verdict_on t.held h)
+treated_by t h = by_tests t h (alike h.condition openly.always) (alike h.condition openly.never) (found h.condition t.held)
+
+treated_push : (t : Treated) (xs : List HeldPoint) (x : HeldPoint) → treated_all t (xs ++ (x ∷ [])) ≡ treated (treated_all t xs) x
+treated_push t [] x = refl
+treated_push t (y ∷ xs) x = treated_push (treated t y) xs x
+
+-- the first i of the points xs are treated: those that stay held are the first of P, and the lines are the first of R
+pub record Progress (xs : List HeldPoint) (S : List Line) (i : ℕ) (P : List HeldPoint) (R : List Line) (count given : ℕ) : Type 0 where
+  pub long : length P ≡ length xs
+  pub room : length R ≡ length S
+  pub sum : count + given ≡ i
+  pub lines : given ≡ length (treated_all untreated (take i xs)).lines
+  pub held : take count P ≡ (treated_all untreated (take i xs)).held
+  pub rest : drop i P ≡ drop i xs
+  pub tray : R ≡ onto (treated_all untreated (take i xs)).lines S
+
+module _ (xs : List HeldPoint) (S : List Line) (i : ℕ) (P : List HeldPoint) (R : List Line) (count given : ℕ) (p : Progress xs S i P R count given)
+    (lt : i < length xs) (space : length xs ≤ length S) (d : HeldPoint) where
+  abbrev now : Treated
+  now = treated_all untreated (take i xs)
+
+  abbrev next : Treated
+  next = treated_all untreated (take (i + 1) xs)
+
+  same_point : get_or P i d ≡ get_or xs i d
+  same_point =
+      ap (λ n. get_or P n d) (sym (add-zero i)) ∙ sym (get_or-drop i P 0 d) ∙ ap (λ l. get_or l 0 d) p.rest
+      ∙ get_or-drop i xs 0 d ∙ ap (λ n. get_or xs n d) (add-zero i)
+
+  -- the next point, by its line
+  stepped : (o : Option Line) → o ≡ verdict_on (take count P) (get_or P i d) → next ≡ by_line now (get_or P i d) o
+  stepped o e =
+      ap (treated_all untreated) (take_more xs i d lt) ∙ treated_push untreated (take i xs) (get_or xs i d)
+      ∙ ap (treated now) (sym same_point) ∙ treated_by now (get_or P i d)
+      ∙ ap (by_line now (get_or P i d)) (ap (λ l. verdict_on l (get_or P i d)) (sym p.held) ∙ sym e)
+
+  rest_on : drop (i + 1) P ≡ drop (i + 1) xs
+  rest_on = sym (drop-drop 1 i P) ∙ ap (drop 1) p.rest ∙ drop-drop 1 i xs
+
+  pub said_on : (l : Line) → Some l ≡ verdict_on (take count P) (get_or P i d) → Progress xs S (i + 1) P (set R given l) count (given + 1)
+  said_on l e =
+      let step = stepped (Some l) e in
+      let before = p.lines in
+      let sum = p.sum in
+      record {
+        long = p.long;
+        room = length-set R given l ∙ p.room;
+        sum = omega arith;
+        lines = ap (λ n. n + 1) p.lines ∙ sym (length_push now.lines l) ∙ sym (ap (λ (t : Treated). length t.lines) step);
+        held = p.held ∙ sym (ap (λ (t : Treated). t.held) step);
+        rest = rest_on;
+        tray =
+            ap (λ x. set x given l) p.tray ∙ onto_more now.lines S given l (sym p.lines) (omega arith)
+            ∙ sym (ap (λ (t : Treated). onto t.lines S) step);
+      }
+
+  pub held_on : None ≡ verdict_on (take count P) (get_or P i d) → Progress xs S (i + 1) (set P count (get_or P i d)) R (count + 1) given
+  held_on e =
+      let step = stepped None e in
+      let sum = p.sum in
+      let long = p.long in
+      record {
+        long = length-set P count (get_or P i d) ∙ p.long;
+        room = p.room;
+        sum = omega arith;
+        lines = p.lines ∙ sym (ap (λ (t : Treated). length t.lines) step);
+        held =
+            take_more_set P count (get_or P i d) (omega arith) ∙ ap (λ l. l ++ (get_or P i d ∷ [])) p.held
+            ∙ sym (ap (λ (t : Treated). t.held) step);
+        rest = drop-set-lt (i + 1) P count (get_or P i d) (omega arith) ∙ rest_on;
+        tray = p.tray ∙ sym (ap (λ (t : Treated). onto t.lines S) step);
+      }
+
+-- the same progress in other words
+pub progress_as : (xs : List HeldPoint) (S : List Line) (i : ℕ) (P P' : List HeldPoint) (R R' : List Line) (count count' given given' : ℕ) →
+    Progress xs S i P R count given → P' ≡ P → R' ≡ R → count' ≡ count → given' ≡ given → Progress xs S i P' R' count' given'
+progress_as xs S i P P' R R' count count' given given' p e f g h =
+    subst (λ x. Progress xs S i x R' count' given') (sym e)
+    (subst (λ x. Progress xs S i P x count' given') (sym f)
+    (subst (λ x. Progress xs S i P R x given') (sym g)
+    (subst (λ x. Progress xs S i P R count x) (sym h) p)))
+
+pub progress_none : (xs : List HeldPoint) (S : List Line) → Progress xs S 0 xs S 0 0
+progress_none xs S = record { long = refl; room = refl; sum = refl; lines = refl; held = refl; rest = refl; tray = refl }
+
+-- all points are treated
+pub all_of : (xs : List HeldPoint) (i : ℕ) → length xs ≤ i → treated_all untreated (take i xs) ≡ treated_all untreated xs
+all_of xs i h = ap (treated_all untreated) (take_all i xs h)
+
+-- the points that are treated: those that were carried, at the front of a table, and then the new one
+pub with_new : (C rest ys : List HeldPoint) (n m : ℕ) (new : HeldPoint) → C ≡ ys → length C ≡ n → n < length (C ++ rest) → m ≡ n + 1
+    → take m (set (C ++ rest) n new) ≡ ys ++ (new ∷ [])
+with_new C rest ys n m new e long lt is =
+    ap (λ k. take k (set (C ++ rest) n new)) is ∙ take_more_set (C ++ rest) n new lt
+    ∙ ap (λ l. l ++ (new ∷ [])) (take_at C rest n long ∙ e)

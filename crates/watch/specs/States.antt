@@ -1,5 +1,5 @@
 -- What a watch in the code holds, as the logic speaks of it.
-use Rattle.std.specs.Prelude.{ℕ, List, [], take, Some, None, Option}
+use Rattle.std.specs.Prelude.{ℕ, ◌+◌, List, [], take, Some, None, Option}
 use Rattle.truth.specs.declared.table.Condition.{Condition}
 use Rattle.rule.specs.Components.{components}
 use Rattle.rule.specs.Reading.{records}
@@ -23,4 +23,17 @@ state w = record {
   newest = w.newest;
   values = conditions w.newest (components (records w.rule)) w.values;
   held = take w.count w.held;
+}
+
+-- what a watch holds that has taken over a new point, with the conditions there and so many held points
+abbrev pub taken_over : Watch → Point → ℕ → State
+taken_over w p count = record {
+  table = records w.rule;
+  slots = w.slots;
+  drawn = w.drawn + 1;
+  accepted = w.accepted + 1;
+  turned = w.turned_away;
+  newest = Some p;
+  values = take (components (records w.rule)) w.fresh;
+  held = take count w.held;
 }

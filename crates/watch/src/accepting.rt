@@ -1,99 +1,78 @@
 // A sample is accepted as a new point, with all that follows.
-ghost use Rattle.std.specs.Prelude.{◌≡◌, ◌+◌, ◌-◌, ◌^◌, ◌<◌, ◌≤◌, List, [], ◌∷◌, ◌++◌, length};
+ghost use Rattle.std.specs.Prelude.{◌≡◌, ◌-◌, ◌^◌, ◌<◌, ◌≤◌, true, List, length, take};
 ghost use Rattle.feed.specs.Lists.{onto};
 ghost use Rattle.feed.specs.declared.entry.Entry.{Entry};
 ghost use Rattle.rule.specs.Components.{components, waits};
 ghost use Rattle.rule.specs.Reading.{records};
-ghost use Rattle.logic.specs.Draws.{accepted_state, filled_at, next_name, ruled, sampled, treatment};
-ghost use Rattle.watch.specs.States.{state};
-ghost use Rattle.watch.specs.Treatments.{filled_of, outcome};
+ghost use Rattle.logic.specs.Draws.{filled, next_name, ruled, sampled};
+ghost use Rattle.watch.specs.States.{conditions, state, taken_over};
 
 use crate::arrival::Arrival;
-use crate::conditions::Conditions;
 use crate::fill::{among, fill};
+use crate::fronts::{put_conditions, put_points};
 use crate::naming::gap_from;
-use crate::tray::put_lines;
-use crate::treatment::Treatment;
+use crate::treating::treat_with;
 use crate::watch::Watch;
 use feed::Sample;
 use logic::{DrawRefusal, HeldPoint, Line, Point};
-use rule::{MOST_COMPONENTS, MOST_WAITS};
-use truth::{Condition, Truth};
+use rule::Rule;
+use truth::Condition;
+
+// Fills in the conditions at a new point, and what the waits become there, over those of the newest point, if there is one.
+fn fill_after(
+    newest: Option<Point>,
+    rule: &Rule,
+    arrival: &Arrival,
+    values: &[Condition],
+    fresh: &mut [Condition],
+    becomes: &mut [Condition],
+)
+    requires values { components (records rule.now) ≤ length values.now }
+    requires fresh { components (records rule.now) ≤ length fresh.old }
+    requires becomes { waits (records rule.now) ≤ length becomes.old }
+    ensures fresh { fresh.new ≡ onto (filled (records rule.now) arrival.now.sample.letters arrival.now.gap (conditions newest (components (records rule.now)) values.now) (length (records rule.now))).values fresh.old }
+    ensures becomes { becomes.new ≡ onto (filled (records rule.now) arrival.now.sample.letters arrival.now.gap (conditions newest (components (records rule.now)) values.now) (length (records rule.now))).becomes becomes.old }
+{
+    let known = match newest {
+        Some(_) => rule.components(),
+        None => 0,
+    };
+    fill(rule, arrival, &values[0..known], fresh, becomes);
+}
+
+// The condition of the rule, which is its last record, among those of all components.
+fn ruled(rule: &Rule, values: &[Condition]) -> Condition
+    requires { components (records rule.now) ≤ length values.now }
+    ensures { result ≡ ruled (records rule.now) (take (components (records rule.now)) values.now) }
+{
+    let n = rule.components();
+    among(&values[0..n], rule.first_component(rule.len() - 1))
+}
+
+// Saves the first points of a table where this is needed.
+fn save(needed: bool, saved: &mut [HeldPoint], held: &[HeldPoint], count: usize)
+    requires saved { count ≤ length saved.old }
+    requires held { count ≤ length held.now }
+    ensures { needed ≡ true → saved.new ≡ onto (take count held.now) saved.old }
+{
+    if needed {
+        put_points(saved, held, count);
+    }
+}
 
 impl Watch {
-    // The conditions of all components at the newest point; none before the first point.
-    fn before(&self) -> &[Condition]
-        ensures { result.now ≡ (state self.now).values }
-    {
-        let n = match self.newest {
-            Some(_) => self.rule.components(),
-            None => 0,
-        };
-        &self.values[0..n]
-    }
-
-    // The conditions at a new point, and what the waits become there.
-    fn conditions_at(&self, sample: Sample) -> Conditions
-        ensures { filled_of (records self.now.rule) result ≡ filled_at (state self.now) sample }
-    {
-        let never = Condition::never();
-        let mut values = [never; MOST_COMPONENTS];
-        let mut becomes = [never; MOST_WAITS];
-        let arrival = Arrival::new(sample, gap_from(self.newest, sample.stamp));
-        fill(
-            &self.rule,
-            &arrival,
-            self.before(),
-            &mut values,
-            &mut becomes,
-        );
-        Conditions { values, becomes }
-    }
-
-    // The condition of the rule, which is its last record.
-    fn ruled(&self, conditions: &Conditions) -> Condition
-        ensures { result ≡ ruled (records self.now.rule) (filled_of (records self.now.rule) conditions.now).values }
+    // Takes over what follows from one more point.
+    fn take_over(&mut self, point: Point, count: usize)
+        requires drawn { self.old.drawn < 2 ^ 32 - 1 }
+        requires slots { count ≤ self.old.slots }
+        ensures { state self.new ≡ taken_over self.old point count }
     {
         let n = self.rule.components();
-        among(
-            &conditions.values[0..n],
-            self.rule.first_component(self.rule.len() - 1),
-        )
-    }
-
-    // What is said of the points that are treated when one more is accepted, and which are held.
-    fn treatment_at(&self, conditions: &Conditions, sample: Sample, point: Point) -> Treatment
-        requires { point ≡ next_name self.now.newest sample.stamp }
-        ensures all { outcome result ≡ treatment (state self.now) sample (filled_of (records self.now.rule) conditions.now) }
-        ensures sum { result.count + result.given ≡ self.now.count + 1 }
-    {
-        let condition = self.ruled(conditions);
-        let waits = self.rule.waits();
-        self.treat_all(
-            &conditions.becomes[0..waits],
-            HeldPoint { point, condition },
-        )
-    }
-
-    // Takes over what follows from one more point.
-    fn take_over(
-        &mut self,
-        sample: Sample,
-        point: Point,
-        conditions: &Conditions,
-        treatment: &Treatment,
-    )
-        requires drawn { self.old.drawn < 2 ^ 32 - 1 }
-        requires slots { treatment.now.count ≤ self.old.slots }
-        requires point { point ≡ next_name self.old.newest sample.stamp }
-        ensures { state self.new ≡ accepted_state (state self.old) sample (filled_of (records self.old.rule) conditions.now) (outcome treatment.now) }
-    {
+        put_conditions(&mut self.values, &self.fresh, n);
         self.drawn += 1;
         self.accepted += 1;
         self.newest = Some(point);
-        self.values = conditions.values;
-        self.held = treatment.held;
-        self.count = treatment.count;
+        self.count = count;
     }
 
     // Accepts a sample as the new point, unless more points would be held than there are slots.
@@ -111,14 +90,28 @@ impl Watch {
         ensures state { (es : List Entry) → state self.new ≡ (sampled (state self.old) es place sample).state }
         ensures tray { (es : List Entry) → tray.new ≡ onto (sampled (state self.old) es place sample).lines tray.old }
     {
-        let conditions = self.conditions_at(sample);
-        let treatment = self.treatment_at(&conditions, sample, point);
+        self.arrival
+            .renew(sample, gap_from(self.newest, sample.stamp));
+        fill_after(
+            self.newest,
+            &self.rule,
+            &self.arrival,
+            &self.values,
+            &mut self.fresh,
+            &mut self.becomes,
+        );
+        let condition = ruled(&self.rule, &self.fresh);
+        let waits = self.rule.waits();
+        let count = self.count;
+        save(count == self.slots, &mut self.saved, &self.held, count);
+        let new = HeldPoint { point, condition };
+        let treatment = treat_with(&mut self.held, count, &self.becomes, waits, new, tray);
         if treatment.count > self.slots {
+            put_points(&mut self.held, &self.saved, count);
             self.turn_away();
             return Err(DrawRefusal::Slots { place });
         }
-        put_lines(tray, &treatment.lines[0..treatment.given]);
-        self.take_over(sample, point, &conditions, &treatment);
+        self.take_over(point, treatment.count);
         Ok(treatment.given)
     }
 }

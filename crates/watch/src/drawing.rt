@@ -1,38 +1,16 @@
 // What a draw does with the entry that it has drawn: it is turned away, or accepted with all that follows.
-ghost use Rattle.std.specs.Prelude.{◌≡◌, ◌+◌, ◌-◌, ◌^◌, ◌<◌, ◌≤◌, List, [], ◌∷◌, ◌++◌, length, take};
+ghost use Rattle.std.specs.Prelude.{◌≡◌, ◌-◌, ◌^◌, ◌<◌, List, length};
 ghost use Rattle.feed.specs.declared.entry.Entry.{Entry};
 ghost use Rattle.feed.specs.Lists.{onto};
-ghost use Rattle.logic.specs.Draws.{carried_points, drawn_content, next_name, sampled, treated_all, turned_state};
+ghost use Rattle.logic.specs.Draws.{drawn_content, sampled, turned_state};
 ghost use Rattle.watch.specs.States.{state};
-ghost use Rattle.watch.specs.Treatments.{outcome};
 
-use crate::arrival::Arrival;
-use crate::fill::fill;
-use crate::naming::{gap_from, is_late, next_point};
-use crate::tray::put_lines;
-use crate::treatment::Treatment;
+use crate::naming::{is_late, next_point};
 use crate::watch::Watch;
 use feed::{Content, Entry, Sample};
-use logic::{DrawRefusal, HeldPoint, Line, Point};
-use rule::{MOST_COMPONENTS, MOST_WAITS};
-use truth::{Condition, Truth};
+use logic::{DrawRefusal, Line};
 
 impl Watch {
-    // The held points, carried to the new point, and then the new point, are each treated once.
-    pub(crate) fn treat_all(&self, becomes: &[Condition], new: HeldPoint) -> Treatment
-        ensures all { outcome result ≡ treated_all (record { lines = []; held = [] }) (carried_points becomes.now (take self.now.count self.now.held) ++ (new ∷ [])) }
-        ensures sum { result.count + result.given ≡ self.now.count + 1 }
-    {
-        let mut treatment = Treatment::new(new);
-        for i in 0..self.count {
-            let mut held = self.held[i];
-            held.condition = held.condition.replaced(becomes);
-            treatment.treat(held);
-        }
-        treatment.treat(new);
-        treatment
-    }
-
     // One entry more was drawn and turned away.
     pub(crate) fn turn_away(&mut self)
         requires { self.old.drawn < 2 ^ 32 - 1 }

@@ -1,11 +1,12 @@
 // The open conditions at a new point, record by record, and what the waits become there.
-ghost use Rattle.std.specs.Prelude.{◌≡◌, ◌+◌, ◌<◌, ◌≤◌, ◌++◌, length, take};
+ghost use Rattle.std.specs.Prelude.{◌≡◌, ◌+◌, ◌<◌, ◌≤◌, List, ◌++◌, length, take, slice_set};
+ghost use Rattle.truth.specs.declared.table.Condition.{Condition};
 ghost use Rattle.truth.specs.Tables.{openly};
 ghost use Rattle.feed.specs.Lists.{onto};
 ghost use Rattle.rule.specs.Components.{components, first_component, first_wait, waits};
 ghost use Rattle.rule.specs.Reading.{records};
-ghost use Rattle.logic.specs.Draws.{among, brought, conditioned, filled, given, row_values, row_waits};
-ghost use Rattle.logic.specs.Steps.{renewed};
+ghost use Rattle.logic.specs.Draws.{among, brought, filled, given, lettered, row_values, row_waits};
+ghost use Rattle.logic.specs.Steps.{evaluated, renewed};
 ghost use Rattle.logic.specs.Tables.{row};
 ghost use Rattle.logic.specs.Values.{at_shift_or};
 
@@ -40,7 +41,8 @@ fn brought(becomes: &[Condition], before: &[Condition], which: Option<usize>) ->
     ensures { result ≡ brought becomes.now before.now which }
 {
     match which {
-        Some(c) => among(before, c).replaced(becomes),
+        Some(c) if c < before.len() => before[c].replaced(becomes),
+        Some(_) => Condition::never().replaced(becomes),
         None => Condition::never(),
     }
 }
@@ -63,28 +65,35 @@ fn given(
     }
 }
 
-// The condition of record j at a shift at the new point, over those of the earlier records there and what the waits became.
+// The condition of record j at a shift at the new point, over those of its arguments there and what the waits became.
 fn condition_of(
     rule: &Rule,
     arrival: &Arrival,
     j: usize,
     shift: u8,
     before: &[Condition],
-    values: &[Condition],
+    left: &Condition,
+    right: &Condition,
     becomes: &[Condition],
 ) -> Condition
     requires { j < length (records rule.now) }
-    ensures { result ≡ conditioned (records rule.now) arrival.now.sample.letters arrival.now.gap before.now values.now becomes.now j shift }
+    ensures { result ≡ evaluated openly (row (records rule.now) j) shift (lettered arrival.now.sample.letters) left.now right.now (given (records rule.now) arrival.now.gap before.now becomes.now j shift) }
 {
-    let record = rule.record(j);
-    let left = argument(rule, record.left(), values);
-    let right = argument(rule, record.right(), values);
     let from = given(rule, j, shift, arrival.gap, before, becomes);
-    evaluate(record, shift, &arrival.letters, left, right, from)
+    evaluate(rule.record(j), shift, &arrival.letters, *left, *right, from)
 }
 
-// Fills in the conditions of record j, at each of its shifts.
-fn fill_row(
+// The condition of a record j that has no arguments.
+fn leaf(rule: &Rule, arrival: &Arrival, j: usize) -> Condition
+    requires { j < length (records rule.now) }
+    ensures { result ≡ evaluated openly (row (records rule.now) j) 0 (lettered arrival.now.sample.letters) openly.never openly.never openly.never }
+{
+    let never = Condition::never();
+    evaluate(rule.record(j), 0, &arrival.letters, never, never, never)
+}
+
+// Fills in the conditions of a record j that has arguments, at each of its shifts.
+fn fill_shifts(
     rule: &Rule,
     arrival: &Arrival,
     j: usize,
@@ -98,36 +107,62 @@ fn fill_row(
 {
     let first = rule.first_component(j);
     let record = rule.record(j);
+    let left = argument(rule, record.left(), &values[0..first]);
+    let right = argument(rule, record.right(), &values[0..first]);
     for s in 0..record.shifts() {
-        let value = condition_of(
-            rule,
-            arrival,
-            j,
-            s as u8,
-            before,
-            &values[0..first],
-            becomes,
-        );
+        let value = condition_of(rule, arrival, j, s as u8, before, &left, &right, becomes);
         values[first + s as usize] = value;
     }
 }
 
-// What the wait of record j at a shift becomes at the new point, over the conditions there of the records up to it.
-fn renewed_at(rule: &Rule, j: usize, shift: u8, gap: Option<u32>, values: &[Condition]) -> Condition
-    ensures { result ≡ renewed openly (row (records rule.now) j) gap (λ a s. among values.now (first_component (records rule.now) a + s)) j shift }
+// Fills in the conditions of record j.
+fn fill_row(
+    rule: &Rule,
+    arrival: &Arrival,
+    j: usize,
+    before: &[Condition],
+    becomes: &[Condition],
+    values: &mut [Condition],
+)
+    requires within { j < length (records rule.now) }
+    requires room { components (records rule.now) ≤ length values.old }
+    ensures { values.new ≡ onto (take (first_component (records rule.now) j) values.old ++ row_values (records rule.now) arrival.now.sample.letters arrival.now.gap before.now (take (first_component (records rule.now) j) values.old) becomes.now j) values.old }
 {
-    let Some(minutes) = gap else {
-        return Condition::never();
-    };
+    match rule.record(j).left() {
+        None => {
+            let value = leaf(rule, arrival, j);
+            values[rule.first_component(j)] = value;
+        }
+        Some(_) => fill_shifts(rule, arrival, j, before, becomes, values),
+    }
+}
+
+// The component at the new point that the wait of record j at a shift becomes, if there is one.
+fn renewed_from(rule: &Rule, j: usize, shift: u8, gap: Option<u32>) -> Option<usize>
+    ensures { (vs : List Condition) → at_shift_or (among vs) openly.never result ≡ renewed openly (row (records rule.now) j) gap (λ a s. among vs (first_component (records rule.now) a + s)) j shift }
+{
+    let minutes = gap?;
     match rule.record(j) {
         Record::Next(interval, a) if interval.contains(minutes) => {
-            among(values, rule.first_component(a as usize))
+            Some(rule.first_component(a as usize))
         }
-        Record::Until(interval, _, _) => match interval.moved(shift, minutes) {
-            Some(to) => among(values, rule.first_component(j) + to as usize),
-            None => Condition::never(),
-        },
-        _ => Condition::never(),
+        Record::Until(interval, _, _) => {
+            let to = interval.moved(shift, minutes)?;
+            Some(rule.first_component(j) + to as usize)
+        }
+        _ => None,
+    }
+}
+
+// Puts a component's condition among some at a place; never where there is none.
+fn put_among(to: &mut [Condition], at: usize, values: &[Condition], which: Option<usize>)
+    requires { at < length to.old }
+    ensures { to.new ≡ slice_set to.old at (at_shift_or (among values.now) openly.never which) }
+{
+    match which {
+        Some(c) if c < values.len() => to[at] = values[c],
+        Some(_) => to[at] = Condition::never(),
+        None => to[at] = Condition::never(),
     }
 }
 
@@ -146,8 +181,8 @@ fn renew_row(
     let first = rule.first_wait(j);
     let record = rule.record(j);
     for s in 0..record.own_waits() {
-        let value = renewed_at(rule, j, s as u8, arrival.gap, values);
-        becomes[first + s as usize] = value;
+        let which = renewed_from(rule, j, s as u8, arrival.gap);
+        put_among(becomes, first + s as usize, values, which);
     }
 }
 

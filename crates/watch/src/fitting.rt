@@ -7,10 +7,12 @@ ghost use Rattle.logic.specs.States.{fitted};
 ghost use Rattle.watch.specs.States.{state};
 ghost use Rattle.watch.specs.Fittings.{after_fitting};
 
+use crate::arrival::Arrival;
 use crate::treatment::MOST_TREATED;
 use crate::watch::Watch;
+use feed::Sample;
 use logic::{HeldPoint, Point};
-use rule::{MOST_COMPONENTS, Rule, RuleRefusal};
+use rule::{MOST_COMPONENTS, MOST_WAITS, Rule, RuleRefusal};
 use truth::{Condition, Truth};
 
 impl Watch {
@@ -37,6 +39,16 @@ impl Watch {
             values: [never; MOST_COMPONENTS],
             held: [nobody; MOST_TREATED],
             count: 0,
+            arrival: Arrival::new(
+                Sample {
+                    stamp: 0,
+                    letters: 0,
+                },
+                None,
+            ),
+            fresh: [never; MOST_COMPONENTS],
+            becomes: [never; MOST_WAITS],
+            saved: [nobody; MOST_TREATED],
         }
     }
 

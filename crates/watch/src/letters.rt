@@ -31,6 +31,19 @@ fn letters_of(sample: Sample) -> [Condition; LETTERS as usize]
     letters
 }
 
+// Spells the letters of a sample where those of an older one stand.
+fn spell(letters: &mut [Condition], old: Sample, new: Sample)
+    requires { letters.old ≡ map (lettered old.letters) (range_with_len 0 letter_count) }
+    ensures { letters.new ≡ map (lettered new.letters) (range_with_len 0 letter_count) }
+{
+    for k in 0..LETTERS {
+        let truth = new.letter(k);
+        if old.letter(k) != truth {
+            letters[k as usize] = constant(truth);
+        }
+    }
+}
+
 impl Arrival {
     // A sample that arrives with a gap from the point before, if there is one.
     pub(crate) fn new(sample: Sample, gap: Option<u32>) -> Arrival
@@ -43,5 +56,14 @@ impl Arrival {
             letters,
             gap,
         }
+    }
+    // The next sample that arrives, with its gap.
+    pub(crate) fn renew(&mut self, sample: Sample, gap: Option<u32>)
+        ensures sample { self.new.sample ≡ sample }
+        ensures gap { self.new.gap ≡ gap }
+    {
+        spell(&mut self.letters, self.sample, sample);
+        self.sample = sample;
+        self.gap = gap;
     }
 }

@@ -1,10 +1,11 @@
 // A draw treats points in turn: each is settled, joined to one that is held, or held.
-ghost use Rattle.std.specs.Prelude.{◌≡◌, ◌+◌, ◌<◌, [], ◌∷◌, ◌++◌, take};
-ghost use Rattle.truth.specs.Tables.{openly};
-ghost use Rattle.logic.specs.Draws.{alike, found, treated};
-ghost use Rattle.watch.specs.Treatments.{outcome};
+ghost use Rattle.std.specs.Prelude.{◌≡◌, ◌+◌, ◌<◌, ◌≤◌, [], ◌∷◌, ◌++◌, length, take};
+ghost use Rattle.feed.specs.Lists.{onto};
+ghost use Rattle.logic.specs.Draws.{alike, carried_points, found, treated_all};
+ghost use Rattle.watch.specs.Treatments.{untreated, verdict_on};
 
-use crate::treatment::{MOST_TREATED, Treatment};
+use crate::carrying::carry_all;
+use crate::treatment::Treatment;
 use logic::{HeldPoint, Line, Point};
 use truth::{Condition, Truth};
 
@@ -15,72 +16,81 @@ fn are_alike(a: &Condition, b: &Condition) -> bool
     a.same(b)
 }
 
-impl Treatment {
-    // Nothing treated yet; `filler` stands where nothing does.
-    pub(crate) fn new(filler: HeldPoint) -> Treatment
-        ensures none { outcome result ≡ record { lines = []; held = [] } }
-        ensures sum { result.count + result.given ≡ 0 }
-    {
-        Treatment {
-            held: [filler; MOST_TREATED],
-            count: 0,
-            lines: [Line::True(filler.point); MOST_TREATED],
-            given: 0,
+// The held point that has the condition, if there is one.
+fn find(held: &[HeldPoint], condition: &Condition) -> Option<Point>
+    ensures { result ≡ found condition.now held.now }
+{
+    for i in 0..held.len() {
+        if are_alike(condition, &held[i].condition) {
+            return Some(held[i].point);
         }
     }
+    None
+}
 
-    // The held point that has the condition, if there is one.
-    fn find(&self, condition: &Condition) -> Option<Point>
-        ensures { result ≡ found condition.now (take self.now.count self.now.held) }
-    {
-        for i in 0..self.count {
-            let held = self.held[i];
-            if are_alike(condition, &held.condition) {
-                return Some(held.point);
+// What is said of a point beside those that are held; none where it is held too.
+fn verdict_on(point: &HeldPoint, held: &[HeldPoint]) -> Option<Line>
+    ensures { result ≡ verdict_on held.now point.now }
+{
+    if point.condition.is_always() {
+        return Some(Line::True(point.point));
+    }
+    if point.condition.is_never() {
+        return Some(Line::False(point.point));
+    }
+    match find(held, &point.condition) {
+        Some(earlier) => Some(Line::Joined {
+            later: point.point,
+            earlier,
+        }),
+        None => None,
+    }
+}
+
+// Treats points in turn. Those that stay held go to the front of the points, and the lines to the front of the tray.
+fn treat_all(points: &mut [HeldPoint], tray: &mut [Line]) -> Treatment
+    requires { length points.old ≤ length tray.old }
+    ensures held { take result.count points.new ≡ (treated_all untreated points.old).held }
+    ensures lines { tray.new ≡ onto (treated_all untreated points.old).lines tray.old }
+    ensures given { result.given ≡ length (treated_all untreated points.old).lines }
+    ensures sum { result.count + result.given ≡ length points.old }
+{
+    let mut count = 0;
+    let mut given = 0;
+    for i in 0..points.len() {
+        match verdict_on(&points[i], &points[0..count]) {
+            Some(line) => {
+                tray[given] = line;
+                given += 1;
+            }
+            None => {
+                points[count] = points[i];
+                count += 1;
             }
         }
-        None
     }
+    Treatment { count, given }
+}
 
-    // One line more.
-    fn say(&mut self, line: Line)
-        requires { self.old.count + self.old.given < 129 }
-        ensures held { (outcome self.new).held ≡ (outcome self.old).held }
-        ensures lines { (outcome self.new).lines ≡ (outcome self.old).lines ++ (line ∷ []) }
-        ensures sum { self.new.count + self.new.given ≡ self.old.count + self.old.given + 1 }
-    {
-        self.lines[self.given] = line;
-        self.given += 1;
-    }
-
-    // One held point more.
-    fn hold(&mut self, point: HeldPoint)
-        requires { self.old.count + self.old.given < 129 }
-        ensures held { (outcome self.new).held ≡ (outcome self.old).held ++ (point ∷ []) }
-        ensures lines { (outcome self.new).lines ≡ (outcome self.old).lines }
-        ensures sum { self.new.count + self.new.given ≡ self.old.count + self.old.given + 1 }
-    {
-        self.held[self.count] = point;
-        self.count += 1;
-    }
-
-    // Treats one point more.
-    pub(crate) fn treat(&mut self, point: HeldPoint)
-        requires { self.old.count + self.old.given < 129 }
-        ensures step { outcome self.new ≡ treated (outcome self.old) point }
-        ensures sum { self.new.count + self.new.given ≡ self.old.count + self.old.given + 1 }
-    {
-        if are_alike(&point.condition, &Condition::always()) {
-            self.say(Line::True(point.point));
-        } else if are_alike(&point.condition, &Condition::never()) {
-            self.say(Line::False(point.point));
-        } else if let Some(earlier) = self.find(&point.condition) {
-            self.say(Line::Joined {
-                later: point.point,
-                earlier,
-            });
-        } else {
-            self.hold(point);
-        }
-    }
+// The first `count` points of a table, carried by what the first `waits` waits become, and then the new point, are each
+// treated once.
+pub(crate) fn treat_with(
+    held: &mut [HeldPoint],
+    count: usize,
+    becomes: &[Condition],
+    waits: usize,
+    new: HeldPoint,
+    tray: &mut [Line],
+) -> Treatment
+    requires waits { waits ≤ length becomes.now }
+    requires room { count < length held.old }
+    requires tray { count < length tray.old }
+    ensures held { take result.count held.new ≡ (treated_all untreated (carried_points (take waits becomes.now) (take count held.old) ++ (new ∷ []))).held }
+    ensures lines { tray.new ≡ onto (treated_all untreated (carried_points (take waits becomes.now) (take count held.old) ++ (new ∷ []))).lines tray.old }
+    ensures given { result.given ≡ length (treated_all untreated (carried_points (take waits becomes.now) (take count held.old) ++ (new ∷ []))).lines }
+    ensures sum { result.count + result.given ≡ count + 1 }
+{
+    carry_all(&mut held[0..count], &becomes[0..waits]);
+    held[count] = new;
+    treat_all(&mut held[0..count + 1], tray)
 }

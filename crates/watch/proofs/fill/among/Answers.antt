@@ -1,3 +1,4 @@
+-- What is left to prove of `among`.
 use Rattle.std.proofs.Common.{sym, ◌∙◌}
 use Rattle.std.proofs.lemmas.List.{get_or_past}
 use Rattle.truth.specs.Tables.{openly}

@@ -1,3 +1,4 @@
+-- What the loop of `fill` keeps.
 use Rattle.std.proofs.Common.{◌≡◌, length}
 use Rattle.feed.specs.Lists.{onto}
 use Rattle.rule.specs.Reading.{records}

@@ -1,14 +1,15 @@
-use Rattle.std.proofs.Common.{◌≡◌, ℕ, ◌+◌, set, refl, ap, ◌∙◌, ap₂, arith}
-use Rattle.std.proofs.lemmas.List.{length-set}
+-- What is left to prove of `renew_row`.
+use Rattle.std.proofs.Common.{◌≡◌, ℕ, ◌+◌, ◌<◌, ◌≤◌, length, take, set, sym, refl, ap, ◌∙◌, ap₂, arith}
 use Rattle.truth.specs.declared.table.Condition.{Condition}
 use Rattle.feed.proofs.Onto.{onto_part}
 use Rattle.rule.specs.Reading.{records}
-use Rattle.rule.specs.Components.{first_component, first_wait, own_waits}
+use Rattle.rule.specs.Components.{first_component, first_wait, own_waits, waits}
 use Rattle.rule.proofs.Counts.{numbers_room}
 use Rattle.truth.specs.Tables.{openly}
 use Rattle.logic.specs.Steps.{renewed}
 use Rattle.logic.specs.Draws.{among}
 use Rattle.logic.specs.Tables.{row}
+use Rattle.logic.specs.Values.{at_shift_or}
 use Rattle.watch.proofs.Filling.{partly, partly_more}
 use Rattle.watch.proofs.fill.renew_row.Goals as goal
 
@@ -28,11 +29,14 @@ loop-s-preserved c =
     let n = first_wait rs c.args.j in
     let first = c.first_wait-first.ensures.value in
     let f : ℕ → Condition = renewed openly (row rs c.args.j) c.args.arrival.now.gap (λ a s. among c.args.values.now (first_component rs a + s)) c.args.j in
-    let is : c.renewed_at-value.result ≡ f s = c.renewed_at-value.ensures in (
-      simp length-set c.loop-s.invariant.0,
+    let which = c.renewed_from-which.result in
+    let v = at_shift_or (among c.args.values.now) openly.never which in
+    let is : v ≡ f s = c.renewed_from-which.ensures c.args.values.now in (
+      c.put_among.auto.to ∙ c.loop-s.invariant.0,
       c.loop-s.invariant.1,
       c.loop-s.invariant.2,
-      ap₂ (λ m v. set R (m + s) v) first is
+      c.put_among.ensures
+          ∙ ap₂ (λ m x. set R (m + s) x) first is
           ∙ ap (λ X. set X (n + s) (f s)) c.loop-s.invariant.3
           ∙ partly_more S n f s (omega (arith, c.requires.room)),
     )

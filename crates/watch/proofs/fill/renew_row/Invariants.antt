@@ -1,3 +1,4 @@
+-- What the loop of `renew_row` keeps.
 use Rattle.std.proofs.Common.{◌≡◌, ◌+◌, ◌≤◌, length}
 use Rattle.truth.specs.Tables.{openly}
 use Rattle.rule.specs.Reading.{records}

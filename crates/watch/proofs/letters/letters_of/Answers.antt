@@ -1,3 +1,4 @@
+-- What is left to prove of `letters_of`.
 use Rattle.std.proofs.Common.{◌<◌, cond, ◌≢◌, length, ap, ◌∙◌, arith, get_or-set_other, get_or-set_same, below_more}
 use Rattle.std.proofs.lemmas.List.{length-set}
 use Rattle.std.proofs.lemmas.List.FromFn.{fill_by_all}

@@ -1,3 +1,4 @@
+-- What the loop of `letters_of` keeps.
 use Rattle.std.proofs.Common.{◌≡◌, ℕ, ◌<◌, length, get_or}
 use Rattle.truth.specs.Tables.{openly}
 use Rattle.feed.specs.Entries.{letter_count}

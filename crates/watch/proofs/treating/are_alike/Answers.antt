@@ -1,3 +1,4 @@
+-- What is left to prove of `are_alike`.
 use Rattle.watch.proofs.Lookups.{alike_is}
 use Rattle.watch.proofs.treating.are_alike.Goals as goal
 

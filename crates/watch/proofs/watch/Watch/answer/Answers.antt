@@ -1,3 +1,4 @@
+-- What is left to prove of `answer`.
 use Rattle.std.proofs.Common.{◌≡◌, ℕ, ◌-◌, min, length, take, replicate, sym, ap, ◌∙◌, arith}
 use Rattle.std.proofs.lemmas.List.{length-take, length-replicate}
 use Rattle.logic.specs.declared.verdict.Line.{Line}

@@ -1,3 +1,4 @@
+-- What is left to prove of `draw`.
 use Rattle.std.proofs.Common.{◌<◌, length, arith}
 use Rattle.std.proofs.lemmas.List.{length-take-le}
 use Rattle.rule.specs.Reading.{records}

@@ -1,3 +1,4 @@
+-- What is left to prove of `held_point`.
 use Rattle.std.proofs.Common.{take, arith}
 use Rattle.std.proofs.lemmas.List.{length-take-le}
 use Rattle.watch.proofs.Lookups.{name_in, name_past}

@@ -1,3 +1,4 @@
+-- What is left to prove of `make_calls`.
 use Rattle.std.proofs.Common.{◌<◌, length, arith}
 use Rattle.std.proofs.lemmas.List.{length-set}
 use Rattle.watch.specs.declared.call.Call.TheVariants.{Draw}

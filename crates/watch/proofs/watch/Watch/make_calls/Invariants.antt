@@ -1,3 +1,4 @@
+-- What the loop of `make_calls` keeps.
 use Rattle.std.proofs.Common.{◌≡◌, ◌≤◌, length, take}
 use Rattle.feed.specs.Lists.{onto}
 use Rattle.watch.specs.States.{state}

@@ -1,9 +1,10 @@
+-- What the loop of `fill_row` keeps.
 use Rattle.std.proofs.Common.{◌≡◌, ◌+◌, ◌≤◌, length, take}
 use Rattle.rule.specs.Reading.{records}
 use Rattle.rule.specs.Components.{components, first_component}
 use Rattle.logic.specs.Draws.{conditioned}
 use Rattle.watch.proofs.Filling.{partly}
-use Rattle.watch.proofs.fill.fill_row.Given as goal
+use Rattle.watch.proofs.fill.fill_shifts.Given as goal
 
 abbrev pub invariant-loop-s : goal.invariant-loop-s
 invariant-loop-s l =

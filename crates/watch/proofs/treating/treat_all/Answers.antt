@@ -1,0 +1,48 @@
+-- One point more, and all of them.
+use Rattle.std.proofs.Common.{◌≡◌, ◌+◌, ◌-◌, ◌<◌, ◌≤◌, length, get_or, take, set, Some, None, Option, sym, refl, ap, ◌∙◌, ap₂, arith}
+use native.Mathlib.Nat.{sub-zero}
+use Rattle.std.proofs.lemmas.List.{get_or_read}
+use Rattle.feed.specs.Lists.{onto}
+use Rattle.logic.specs.declared.verdict.Line.{Line}
+use Rattle.logic.specs.declared.verdict.HeldPoint.{HeldPoint}
+use Rattle.logic.specs.Draws.{Treated}
+use Rattle.watch.specs.Treatments.{verdict_on}
+use Rattle.watch.proofs.Treated.{all_of, held_on, progress_as, progress_none, said_on}
+use Rattle.watch.proofs.treating.treat_all.Goals as goal
+use Rattle.watch.proofs.treating.treat_all.Goals.{in-Some, in-None}
+
+pub loop-i-init : goal.loop-i-init
+loop-i-init c = progress_none c.args.points.now c.args.tray.now
+
+pub loop-i-preserved : goal.loop-i-preserved
+loop-i-preserved c =
+    let xs = c.args.points.now in
+    let S = c.args.tray.now in
+    let i = c.loop-i.i in
+    let P = c.loop-i.points in
+    let R = c.loop-i.tray in
+    let p = c.loop-i.invariant in
+    let long = p.long in
+    let lt : i < length xs = omega arith in
+    let room = c.requires in
+    let d : HeldPoint = c.index-points-i.result in
+    let whole = ap₂ (λ n h. verdict_on (take n P) h) (sub-zero c.loop-i.count) c.index-points-i.is in
+    elim c.match-verdict_on.branch [
+      | in-Some w ↦ progress_as xs S (i + 1) _ _ _ _ _ _ _ _ (said_on xs S i P R c.loop-i.count c.loop-i.given p lt room d w.in-Some.line (let e : Some w.in-Some.line ≡ verdict_on (take (c.loop-i.count - 0) P) d = w.in-Some.ensures in e ∙ whole))
+          w.points-is w.tray-is w.count-is w.given-is
+      | in-None w ↦ progress_as xs S (i + 1) _ _ _ _ _ _ _ _ (held_on xs S i P R c.loop-i.count c.loop-i.given p lt room d (let e : ◌≡◌ {A = Option Line} None (verdict_on (take (c.loop-i.count - 0) P) d) = w.in-None.ensures in e ∙ whole))
+          (w.points-is ∙ ap (set P c.loop-i.count) (get_or_read P i w.index-points-i-in-None.result (omega arith) w.index-points-i-in-None.is d)) w.tray-is w.count-is w.given-is
+    ]
+
+pub returns : goal.returns
+returns c =
+    let xs = c.args.points.now in
+    let p = c.loop-i.invariant in
+    let end = c.loop-i.auto.i-end in
+    let done = all_of xs c.loop-i.i (omega (arith, p.long)) in
+    record {
+      held = p.held ∙ ap (λ (t : Treated). t.held) done;
+      lines = p.tray ∙ ap (λ (t : Treated). onto t.lines c.args.tray.now) done;
+      given = p.lines ∙ ap (λ (t : Treated). length t.lines) done;
+      sum = let last : c.loop-i.i ≡ length xs = omega (arith, p.long) in p.sum ∙ last;
+    }
