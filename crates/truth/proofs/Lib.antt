@@ -1,4 +1,5 @@
 -- The proofs on kinds of truth.
+pub mod Made
 pub mod Packing
 pub mod Waits
 pub mod Repeats

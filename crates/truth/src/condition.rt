@@ -1,5 +1,5 @@
 // Open conditions as a kind of truth: each operation goes word by word.
-ghost use Rattle.std.specs.Prelude.{◌≡◌, Decides};
+ghost use Rattle.std.specs.Prelude.{◌≡◌, Decides, if◌then◌else◌};
 ghost use Rattle.truth.specs.Laws.{Laws, Meant, Ops, Splits};
 ghost use Rattle.truth.specs.Plain.{plainly};
 ghost use Rattle.truth.specs.Tables.{means, openly, uniform};
@@ -8,6 +8,7 @@ ghost use Rattle.truth.specs.Meaning.{open_laws, open_splits};
 
 use crate::kind::{Boolean, Truth};
 use crate::table::{Condition, WORDS};
+use std::array;
 
 // Every word is the same.
 fn filled(word: u64) -> Condition
@@ -23,12 +24,7 @@ impl Condition {
     fn is_all(&self, word: u64) -> bool
         ensures { Decides result (self.now ≡ uniform word) }
     {
-        for i in 0..WORDS {
-            if self.words[i] != word {
-                return false;
-            }
-        }
-        true
+        self.words.iter().all(|&own| own == word)
     }
 
     // Whether the condition is always.
@@ -60,36 +56,43 @@ impl Truth for Condition {
     }
 
     fn both(self, other: Condition) -> Condition {
-        let mut words = [0; WORDS];
-        for i in 0..WORDS {
-            words[i] = self.words[i] & other.words[i];
+        Condition {
+            words: array::from_fn(|i| self.words[i] & other.words[i]),
         }
-        Condition { words }
     }
 
     fn either(self, other: Condition) -> Condition {
-        let mut words = [0; WORDS];
-        for i in 0..WORDS {
-            words[i] = self.words[i] | other.words[i];
+        Condition {
+            words: array::from_fn(|i| self.words[i] | other.words[i]),
         }
-        Condition { words }
     }
 
     fn not(self) -> Condition {
-        let mut words = [0; WORDS];
-        for i in 0..WORDS {
-            words[i] = !self.words[i];
+        Condition {
+            words: array::from_fn(|i| !self.words[i]),
         }
-        Condition { words }
     }
 
     fn same(&self, other: &Condition) -> bool {
-        for i in 0..WORDS {
-            if self.words[i] != other.words[i] {
+        for (own, word) in self.words.iter().zip(&other.words) {
+            if own != word {
                 return false;
             }
         }
         true
+    }
+}
+
+// The condition that has one value at every setting.
+impl From<bool> for Condition {
+    ghost from_gives = { λ value r. r ≡ (if value then openly.always else openly.never) };
+
+    fn from(value: bool) -> Condition {
+        if value {
+            Condition::always()
+        } else {
+            Condition::never()
+        }
     }
 }
 

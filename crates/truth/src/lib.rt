@@ -28,6 +28,8 @@ mod tests {
         assert!(rt; never.same(&Condition::always().not()));
         assert!(rt; never.either(Condition::always()).same(&Condition::always()));
         assert!(rt; !never.same(&Condition::always()));
+        assert!(rt; never.same(&Condition::from(false)));
+        assert!(rt; Condition::from(true).is_always() && never.is_never());
     }
 
     #[test]

@@ -1,5 +1,5 @@
 // Open conditions by setting: single waits, values, and all waits replaced together.
-ghost use Rattle.std.specs.Prelude.{◌≡◌, ℕ, suc, ◌+◌, ◌*◌, ◌%◌, ◌^◌, ◌<◌, ◌≤◌, true, List, length, if◌then◌else◌};
+ghost use Rattle.std.specs.Prelude.{◌≡◌, ℕ, suc, None, IfSome, ◌+◌, ◌*◌, ◌%◌, ◌^◌, ◌<◌, ◌≤◌, true, List, length, if◌then◌else◌};
 ghost use Rattle.truth.specs.declared.table.Condition.{Condition};
 ghost use Rattle.truth.specs.Replacing.{packed, partly, replaced, waiting};
 ghost use Rattle.truth.specs.Tables.{means, openly, word};
@@ -7,6 +7,7 @@ ghost use Rattle.truth.specs.Words.{bit, settings, wait_count, word_count};
 
 use crate::kind::Truth;
 use crate::table::{Condition, WAITS, WORDS};
+use std::array;
 
 // The waits that differ within a word.
 const INNER_WAITS: usize = 6;
@@ -35,17 +36,6 @@ fn wait_word(w: usize, i: usize) -> u64
     }
 }
 
-// The condition that has one value at every setting.
-fn constant(value: bool) -> Condition
-    ensures { result ≡ (if value then openly.always else openly.never) }
-{
-    if value {
-        Condition::always()
-    } else {
-        Condition::never()
-    }
-}
-
 // Whether the lower `count` bits of `word` are those above them.
 fn bits_repeat(word: u64, count: usize) -> bool
     requires { count < 64 }
@@ -60,11 +50,9 @@ impl Condition {
     pub fn wait(w: usize) -> Condition
         ensures { result ≡ waiting w }
     {
-        let mut words = [0; WORDS];
-        for i in 0..WORDS {
-            words[i] = wait_word(w, i);
+        Condition {
+            words: array::from_fn(|i| wait_word(w, i)),
         }
-        Condition { words }
     }
 
     // The value at the setting `n`; past the last setting it is false.
@@ -79,17 +67,15 @@ impl Condition {
         requires { first + 2 * count ≤ word_count }
         ensures { result ≡ true → (k : ℕ) → k < count → word self.now (first + k) ≡ word self.now (first + count + k) }
     {
-        for k in 0..count {
-            if self.words[first + k] != self.words[first + count + k] {
-                return false;
-            }
-        }
-        true
+        let second = first + count;
+        self.words[first..second] == self.words[second..second + count]
     }
 
     // Whether wait `w` does not matter to the 2^(w + 1) settings from `from` on.
     fn repeats(&self, w: usize, from: usize) -> bool
-        requires { (w < wait_count) × ((from + 2 ^ suc w ≤ settings) × (from % 2 ^ suc w ≡ 0)) }
+        requires few { w < wait_count }
+        requires room { from + 2 ^ suc w ≤ settings }
+        requires start { from % 2 ^ suc w ≡ 0 }
         ensures { result ≡ true → (k : ℕ) → k < 2 ^ w → means self.now (from + k) ≡ means self.now (from + 2 ^ w + k) }
     {
         if w < INNER_WAITS {
@@ -99,42 +85,45 @@ impl Condition {
         }
     }
 
-    // How many of the lowest `waits` waits matter to the 2^`waits` settings from `from` on: all up to the highest that does.
-    fn used(&self, waits: usize, from: usize) -> usize
-        requires { (waits ≤ wait_count) × ((from + 2 ^ waits ≤ settings) × (from % 2 ^ waits ≡ 0)) }
-        ensures fewer { result ≤ waits }
-        ensures room { from + 2 ^ result ≤ settings }
-        ensures start { from % 2 ^ result ≡ 0 }
-        ensures same { (cs : List Condition) → partly cs self.now result from ≡ partly cs self.now waits from }
+    // The highest of the waits below `waits` that matters to the 2^`waits` settings from `from` on, if any does.
+    fn highest(&self, waits: usize, from: usize) -> Option<usize>
+        requires few { waits ≤ wait_count }
+        requires room { from + 2 ^ waits ≤ settings }
+        requires start { from % 2 ^ waits ≡ 0 }
+        ensures none { result ≡ None → (cs : List Condition) → partly cs self.now 0 from ≡ partly cs self.now waits from }
+        ensures some { IfSome result (λ w. (w < waits) × ((from + 2 ^ suc w ≤ settings) × (from % 2 ^ suc w ≡ 0))) }
+        ensures same { IfSome result (λ w. (cs : List Condition) → partly cs self.now (suc w) from ≡ partly cs self.now waits from) }
     {
-        let mut used = waits;
-        while used > 0 && self.repeats(used - 1, from) {
-            used -= 1;
+        for w in (0..waits).rev() {
+            if !self.repeats(w, from) {
+                return Some(w);
+            }
         }
-        used
+        None
     }
 
     // `high` where this condition is true, and `low` where it is false.
     fn choose(&self, high: &Condition, low: &Condition) -> Condition
         ensures { result ≡ openly.either (openly.both self.now high.now) (openly.both (openly.not self.now) low.now) }
     {
-        let mut words = [0; WORDS];
-        for i in 0..WORDS {
-            words[i] = (self.words[i] & high.words[i]) | (!self.words[i] & low.words[i]);
+        Condition {
+            words: array::from_fn(|i| {
+                (self.words[i] & high.words[i]) | (!self.words[i] & low.words[i])
+            }),
         }
-        Condition { words }
     }
 
     // The condition at the 2^`waits` settings from `from` on, with each wait below `waits` replaced.
     fn carried(&self, by: &[Condition], waits: usize, from: usize) -> Condition
-        requires { (waits ≤ wait_count) × ((from + 2 ^ waits ≤ settings) × ((from % 2 ^ waits ≡ 0) × (waits ≤ length by.now))) }
+        requires few { waits ≤ wait_count }
+        requires room { from + 2 ^ waits ≤ settings }
+        requires start { from % 2 ^ waits ≡ 0 }
+        requires given { waits ≤ length by.now }
         ensures { result ≡ partly by.now self.now waits from }
     {
-        let used = self.used(waits, from);
-        if used == 0 {
-            return constant(self.value_at(from));
-        }
-        let w = used - 1;
+        let Some(w) = self.highest(waits, from) else {
+            return Condition::from(self.value_at(from));
+        };
         let low = self.carried(by, w, from);
         let high = self.carried(by, w, from + (1 << w));
         by[w].choose(&high, &low)

@@ -17,8 +17,8 @@ pub words_repeat-requires : goal.words_repeat-requires
 words_repeat-requires c =
     let w = c.args.w in
     let high = c.if-w-lt-INNER_WAITS.false in
-    let few = c.requires.0 in
-    let room = c.requires.1.0 in
+    let few = c.requires.few in
+    let room = c.requires.room in
     let shift = one_shl (w - 6) 64 (omega arith) in
     let power = outer_pow w high in
     let double = two-pow-succ w in
@@ -32,7 +32,7 @@ returns-then-w-lt-INNER_WAITS c e =
     let low = c.if-w-lt-INNER_WAITS.true in
     let shift = one_shl w 64 (omega arith) in
     let x = word s (from / 64) / 2 ^ (from % 64) in
-    inner_same s w from c.requires.1.1 low
+    inner_same s w from c.requires.start low
     (λ k l. c.bits_repeat.ensures e k (omega arith) ∙ ap (λ n. bit x (n + k)) shift)
 
 pub returns-else-w-lt-INNER_WAITS : goal.returns-else-w-lt-INNER_WAITS
@@ -40,7 +40,7 @@ returns-else-w-lt-INNER_WAITS c e =
     let s = c.args.self.now in
     let w = c.args.w in
     let from = c.args.from in
-    let few = c.requires.0 in
+    let few = c.requires.few in
     let shift = one_shl (w - 6) 64 (omega arith) in
-    outer_same s w from c.requires.1.1 c.if-w-lt-INNER_WAITS.false
+    outer_same s w from c.requires.start c.if-w-lt-INNER_WAITS.false
     (λ k l. c.words_repeat.ensures e k (omega arith) ∙ ap (λ n. word s (from / 64 + n + k)) shift)

@@ -11,7 +11,7 @@ carried-requires c =
     let least = c.min.ensures in
     let few : m ≤ wait_count = omega arith in
     let power = pow_mono few in
-    (few, (omega arith, (zero-mod (2 ^ m), omega arith)))
+    record { few = few; room = omega arith; start = zero-mod (2 ^ m); given = omega arith }
 
 pub returns : goal.returns
 returns c = c.carried.ensures ∙ part_rest c.args.by.now c.args.self.now 0 c.min.result c.min.ensures ∙ part_all c.args.by.now c.args.self.now

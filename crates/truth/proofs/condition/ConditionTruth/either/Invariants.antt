@@ -1,9 +1,0 @@
--- The words written so far.
-use Rattle.std.proofs.Common.{◌≡◌, ℕ, ◌<◌, length, get_or}
-use lib.Bits.{bit_or}
-use Rattle.truth.specs.Words.{word_count}
-use Rattle.truth.specs.Tables.{word}
-use Rattle.truth.proofs.condition.ConditionTruth.either.Given as goal
-
-abbrev pub invariant-loop-i : goal.invariant-loop-i
-invariant-loop-i l = (length l.words ≡ word_count) × ((k : ℕ) → k < l.i → get_or l.words k 0 ≡ bit_or (word l.self k) (word l.other k))
