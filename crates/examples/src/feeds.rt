@@ -28,11 +28,11 @@ fn refused(pattern: &mut Pattern, first: u32, per: u32, words: &[u16], count: u3
 }
 
 fn sample(stamp: u32, letters: u16) -> Content {
-    Content::Sample(Sample { stamp, letters })
+    Ok(Sample { stamp, letters })
 }
 
 fn spoiled(cause: Cause, height: u8) -> Content {
-    Content::Spoiled(Fault { cause, height })
+    Err(Fault { cause, height })
 }
 
 #[test]

@@ -1,10 +1,9 @@
 -- The entries of some bytes: one record on, and what holds of all.
-use Rattle.std.proofs.Common.{◌≡◌, ℕ, ◌+◌, ◌*◌, ◌≤◌, ltb, List, [], ◌∷◌, length, get_or, drop, refl, arith}
+use Rattle.std.proofs.Common.{Ok, ◌≡◌, ℕ, ◌+◌, ◌*◌, ◌≤◌, ltb, List, [], ◌∷◌, length, get_or, drop, refl, arith}
 use Rattle.std.proofs.lemmas.Bool.{cond_both, ltb-true}
 use Rattle.feed.specs.Entries.{Clear, SoundFrom, letter_limit}
 use Rattle.feed.specs.Records.{entries_from, little_endian, record_content, spoiled}
 use Rattle.feed.specs.declared.entry.Cause.TheVariants.{UpperBits}
-use Rattle.feed.specs.declared.entry.Content.TheVariants.{Sample}
 
 -- bytes that begin with a whole record
 pub read_more : (k : ℕ) (xs : List ℕ) → 6 ≤ length xs →
@@ -22,7 +21,7 @@ clear_content : (a b c d low high : ℕ) → Clear (record_content a b c d low h
 clear_content a b c d low high =
     let stamp = little_endian (a ∷ b ∷ c ∷ d ∷ []) in
     let letters = little_endian (low ∷ high ∷ []) in
-    cond_both (ltb letters letter_limit) (Sample (record { stamp = stamp; letters = letters })) (spoiled UpperBits) Clear
+    cond_both (ltb letters letter_limit) (Ok (record { stamp = stamp; letters = letters })) (spoiled UpperBits) Clear
     (ltb-true letters letter_limit) (λ _. tt)
 
 pub sound_entries : (k : ℕ) (xs : List ℕ) → SoundFrom k (entries_from k xs)

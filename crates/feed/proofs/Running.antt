@@ -1,9 +1,8 @@
 -- The entries of a pattern: one on, at the end, and by the words in use.
-use Rattle.std.proofs.Common.{◌≡◌, ℕ, zero, suc, ◌+◌, ◌-◌, ◌/◌, ◌%◌, ◌<◌, ◌≤◌, ltb, List, [], ◌∷◌, ◌++◌, length, sym, refl, ap, ◌∙◌, ⊎_elim, div-mul-le_self, arith}
+use Rattle.std.proofs.Common.{Ok, ◌≡◌, ℕ, zero, suc, ◌+◌, ◌-◌, ◌/◌, ◌%◌, ◌<◌, ◌≤◌, ltb, List, [], ◌∷◌, ◌++◌, length, sym, refl, ap, ◌∙◌, ⊎_elim, div-mul-le_self, arith}
 use Rattle.std.proofs.lemmas.Nat.{le-div, mod_below}
 use Rattle.std.proofs.lemmas.List.{get_or_append_left}
 use Rattle.std.proofs.lemmas.Bool.{cases_lt, lt-ltb, le-ltb}
-use Rattle.feed.specs.declared.entry.Content.TheVariants.{Sample}
 use Rattle.feed.specs.declared.entry.Entry.{Entry}
 use Rattle.feed.specs.Lists.{some_left}
 use Rattle.feed.specs.Patterns.{pattern_entry, pattern_from, pattern_entries}
@@ -31,7 +30,7 @@ pattern_front : (s r : ℕ) (vs rest : List ℕ) (k n : ℕ) → 0 < length vs �
 pattern_front s r vs rest k zero h = refl
 pattern_front s r vs rest k (suc n) h =
     let w = length vs in
-    let at : ℕ → Entry = (λ l. record { place = k; content = Sample (record { stamp = s + k / r; letters = l }) }) in
+    let at : ℕ → Entry = (λ l. record { place = k; content = Ok (record { stamp = s + k / r; letters = l }) }) in
     ap (λ l. at l ∷ pattern_from s r (vs ++ rest) w (k + 1) n) (get_or_append_left vs rest 0 (k % w) (mod_below k w h))
     ∙ ap (λ es. pattern_entry s r vs w k ∷ es) (pattern_front s r vs rest (k + 1) n h)
 

@@ -1,8 +1,8 @@
 -- Letters of a sample, the numbers of causes, and what holds of every list of entries.
-use Rattle.std.specs.Prelude.{◌≡◌, ℕ, ◌+◌, ◌^◌, ◌<◌, Bool, List, [], ◌∷◌}
+use Rattle.std.specs.Prelude.{◌≡◌, ℕ, ◌+◌, ◌^◌, ◌<◌, Bool, List, [], ◌∷◌, Ok, Err, Result}
 use Rattle.truth.specs.Words.{bit}
-use Rattle.feed.specs.declared.entry.Content.{Content}
-use Rattle.feed.specs.declared.entry.Content.TheVariants.{Sample, Spoiled}
+use Rattle.feed.specs.declared.entry.Sample.{Sample}
+use Rattle.feed.specs.declared.entry.Fault.{Fault}
 use Rattle.feed.specs.declared.entry.Entry.{Entry}
 use Rattle.feed.specs.declared.entry.Cause.{Cause}
 use Rattle.feed.specs.declared.entry.Cause.TheVariants.{UpperBits, ShortRecord, StampRange}
@@ -25,10 +25,14 @@ cause_number UpperBits = 1
 cause_number ShortRecord = 2
 cause_number StampRange = 3
 
+-- what an entry holds: a sample, or it is spoiled by a fault
+abbrev pub Content : Type 0
+Content = Result Sample Fault
+
 -- a sample has no upper bit
 abbrev pub Clear : Content → Type 0
-Clear (Sample s) = s.letters < letter_limit
-Clear (Spoiled f) = Unit {0}
+Clear (Ok s) = s.letters < letter_limit
+Clear (Err f) = Unit {0}
 
 -- the places count from k, and no sample has an upper bit
 abbrev pub SoundFrom : ℕ → List Entry → Type 0

@@ -1,7 +1,6 @@
 -- What a layer makes of the feed beneath it.
-use Rattle.std.specs.Prelude.{ℕ, ◌+◌, ◌/◌, ◌^◌, min, cond, ℤ, pos, negsuc, ◌+ℤ◌, nat_lt}
-use Rattle.feed.specs.declared.entry.Content.{Content}
-use Rattle.feed.specs.declared.entry.Content.TheVariants.{Sample, Spoiled}
+use Rattle.std.specs.Prelude.{ℕ, ◌+◌, ◌/◌, ◌^◌, min, cond, Ok, Err, ℤ, pos, negsuc, ◌+ℤ◌, nat_lt}
+use Rattle.feed.specs.Entries.{Content}
 use Rattle.feed.specs.declared.entry.Entry.{Entry}
 use Rattle.feed.specs.declared.entry.Cause.TheVariants.{StampRange}
 
@@ -11,17 +10,17 @@ above h = min (h + 1) 15
 
 -- spoiled by a layer of height own, since a stamp is out of range
 abbrev pub out_of_range : ℕ → Content
-out_of_range own = Spoiled (record { cause = StampRange; height = own })
+out_of_range own = Err (record { cause = StampRange; height = own })
 
 -- the sample of some letters at the stamp z, if that is in range
 abbrev pub at_stamp : ℕ → ℕ → ℤ → Content
-at_stamp own letters (pos n) = cond (nat_lt n (2 ^ 32)) (Sample (record { stamp = n; letters = letters })) (out_of_range own)
+at_stamp own letters (pos n) = cond (nat_lt n (2 ^ 32)) (Ok (record { stamp = n; letters = letters })) (out_of_range own)
 at_stamp own letters (negsuc n) = out_of_range own
 
 -- a content with by added to its stamp, by a layer of height own
 abbrev pub shifted_content : ℤ → ℕ → Content → Content
-shifted_content by own (Sample s) = at_stamp own s.letters (pos s.stamp +ℤ by)
-shifted_content by own (Spoiled f) = Spoiled f
+shifted_content by own (Ok s) = at_stamp own s.letters (pos s.stamp +ℤ by)
+shifted_content by own (Err f) = Err f
 
 -- an entry with by added to its stamp, by a layer of height own
 abbrev pub shifted : ℤ → ℕ → Entry → Entry
@@ -37,8 +36,8 @@ minute_of t = t / 60
 
 -- a content whose stamp in seconds is turned into minutes
 abbrev pub minute_content : Content → Content
-minute_content (Sample s) = Sample (record { stamp = minute_of s.stamp; letters = s.letters })
-minute_content (Spoiled f) = Spoiled f
+minute_content (Ok s) = Ok (record { stamp = minute_of s.stamp; letters = s.letters })
+minute_content (Err f) = Err f
 
 -- an entry whose stamp in seconds is turned into minutes
 abbrev pub in_minutes : Entry → Entry

@@ -6,3 +6,4 @@ pub mod RecordFeeds
 pub mod Patterns
 pub mod Layers
 pub mod Heights
+pub mod Turned

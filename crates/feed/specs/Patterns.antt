@@ -1,7 +1,6 @@
 -- The entries of a pattern, and the making of one.
 use Rattle.std.specs.Prelude.{◌≡◌, ℕ, zero, suc, ◌+◌, ◌-◌, ◌/◌, ◌%◌, ◌^◌, Bool, true, cond, ◌&&◌, ◌||◌, List, [], ◌∷◌, length, Ok, Err, Result, ◌==◌, nat_le, nat_lt, slice_index}
 use Rattle.feed.specs.Entries.{letter_limit}
-use Rattle.feed.specs.declared.entry.Content.TheVariants.{Sample}
 use Rattle.feed.specs.declared.entry.Entry.{Entry}
 use Rattle.feed.specs.declared.pattern.Pattern.{Pattern}
 use Rattle.feed.specs.declared.pattern.PatternRefusal.{PatternRefusal}
@@ -9,7 +8,7 @@ use Rattle.feed.specs.declared.pattern.PatternRefusal.TheVariants.{WordCount, Wo
 
 -- the entry at place k, with the stamp s + k / r and word number k mod w of ws
 abbrev pub pattern_entry : ℕ → ℕ → List ℕ → ℕ → ℕ → Entry
-pattern_entry s r ws w k = record { place = k; content = Sample (record { stamp = s + k / r; letters = slice_index ws (k % w) }) }
+pattern_entry s r ws w k = record { place = k; content = Ok (record { stamp = s + k / r; letters = slice_index ws (k % w) }) }
 
 -- n entries, the first of which has the place k
 abbrev pub pattern_from : ℕ → ℕ → List ℕ → ℕ → ℕ → ℕ → List Entry

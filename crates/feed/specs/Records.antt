@@ -1,9 +1,7 @@
 -- The entries of some bytes, read as records of six.
-use Rattle.std.specs.Prelude.{ℕ, ◌+◌, ◌*◌, cond, List, [], ◌∷◌, nat_lt}
-use Rattle.feed.specs.Entries.{letter_limit}
+use Rattle.std.specs.Prelude.{ℕ, ◌+◌, ◌*◌, cond, Ok, Err, List, [], ◌∷◌, nat_lt}
+use Rattle.feed.specs.Entries.{Content, letter_limit}
 use Rattle.feed.specs.declared.entry.Entry.{Entry}
-use Rattle.feed.specs.declared.entry.Content.{Content}
-use Rattle.feed.specs.declared.entry.Content.TheVariants.{Sample, Spoiled}
 use Rattle.feed.specs.declared.entry.Cause.{Cause}
 use Rattle.feed.specs.declared.entry.Cause.TheVariants.{UpperBits, ShortRecord}
 
@@ -14,14 +12,14 @@ little_endian (b ∷ bs) = b + 256 * little_endian bs
 
 -- a spoiled entry's content; a record feed has the height 0
 abbrev pub spoiled : Cause → Content
-spoiled cause = Spoiled (record { cause = cause; height = 0 })
+spoiled cause = Err (record { cause = cause; height = 0 })
 
 -- the content of a whole record: its sample, unless an upper bit of the letters is set
 abbrev pub record_content : ℕ → ℕ → ℕ → ℕ → ℕ → ℕ → Content
 record_content a b c d low high =
     let letters = little_endian (low ∷ high ∷ []) in
     cond (nat_lt letters letter_limit)
-    (Sample (record { stamp = little_endian (a ∷ b ∷ c ∷ d ∷ []); letters = letters }))
+    (Ok (record { stamp = little_endian (a ∷ b ∷ c ∷ d ∷ []); letters = letters }))
     (spoiled UpperBits)
 
 -- the entries of some bytes, the first of which has the place k

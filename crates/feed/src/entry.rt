@@ -19,11 +19,11 @@ pub struct Sample {
 #[derive(Clone, Copy, PartialEq, Eq, Debug)]
 pub enum Cause {
     // One of the upper four bits of the letters is set.
-    UpperBits,
+    UpperBits = 1,
     // The last record has too few bytes.
-    ShortRecord,
+    ShortRecord = 2,
     // A layer has moved the stamp out of range.
-    StampRange,
+    StampRange = 3,
 }
 
 // A cause, and the height of the feed that found it.
@@ -33,12 +33,8 @@ pub struct Fault {
     pub height: u8,
 }
 
-// What an entry holds.
-#[derive(Clone, Copy, PartialEq, Eq, Debug)]
-pub enum Content {
-    Sample(Sample),
-    Spoiled(Fault),
-}
+// What an entry holds: a sample, or it is spoiled by a fault.
+pub type Content = Result<Sample, Fault>;
 
 // What a feed gives at a place, counted from 0.
 #[derive(Clone, Copy, PartialEq, Eq, Debug)]
@@ -61,10 +57,6 @@ impl Cause {
     pub fn number(self) -> u8
         ensures { result ≡ cause_number self }
     {
-        match self {
-            Cause::UpperBits => 1,
-            Cause::ShortRecord => 2,
-            Cause::StampRange => 3,
-        }
+        self as u8
     }
 }

@@ -10,10 +10,11 @@ mod shift;
 mod source;
 
 pub use entry::{Cause, Content, Entry, Fault, LETTERS, Sample};
-pub use minute::{Minute, minutes_stand};
+pub use layer::{Layer, Turn, layers_stand};
+pub use minute::{Minute, ToMinutes, minutes_stand};
 pub use pattern::{Pattern, PatternRefusal, patterns_stand};
 pub use record_feed::{RecordFeed, entries_stand};
-pub use shift::{Shift, shifts_stand};
+pub use shift::{Shift, ShiftBy, shifts_stand};
 pub use source::Feed;
 
 #[cfg(test)]

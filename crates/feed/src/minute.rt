@@ -1,32 +1,32 @@
 // A layer that turns stamps in seconds into minutes.
 ghost use Rattle.std.specs.Prelude.{◌≡◌, ℕ, ◌≤◌, List, map};
 ghost use Rattle.feed.specs.Entries.{SoundFrom};
-ghost use Rattle.feed.specs.Heights.{above_low};
-ghost use Rattle.feed.specs.Layers.{above, in_minutes, minute_content, minute_of};
+ghost use Rattle.feed.specs.Turned.{clear_minutes};
+ghost use Rattle.feed.specs.Layers.{in_minutes, minute_content, minute_of};
 
 use crate::entry::{Content, Entry, Sample};
-use crate::layer::layer_height;
-use crate::source::Feed;
+use crate::layer::{Layer, Turn};
 
 // How many seconds a minute has.
 const MINUTE: u32 = 60;
 
-// The feed `beneath` with the stamp of each sample turned from seconds into minutes; what is spoiled beneath is passed on.
-#[derive(Drop)]
-pub struct Minute<F> {
-    beneath: F,
-}
+// Turns the stamp of each sample from seconds into minutes; what is spoiled beneath is passed on.
+#[derive(Clone, Copy)]
+pub struct ToMinutes;
 
-// A content whose stamp in seconds is turned into minutes.
-fn minute_content(content: Content) -> Content
-    ensures { result ≡ minute_content content }
-{
-    match content {
-        Content::Sample(sample) => Content::Sample(Sample {
+// The feed beneath, in minutes.
+pub type Minute<F> = Layer<F, ToMinutes>;
+
+impl Turn for ToMinutes {
+    ghost turned = { λ _ _ x. minute_content x };
+
+    ghost clear = { λ _ _ x. clear_minutes x };
+
+    fn turn(&self, content: Content, _own: u8) -> Content {
+        content.map(|sample| Sample {
             stamp: sample.stamp / MINUTE,
-            letters: sample.letters,
-        }),
-        Content::Spoiled(fault) => Content::Spoiled(fault),
+            ..sample
+        })
     }
 }
 
@@ -35,7 +35,10 @@ impl<F> Minute<F> {
     pub fn new(beneath: F) -> Minute<F>
         ensures { result.beneath ≡ beneath }
     {
-        Minute { beneath }
+        Layer {
+            beneath,
+            turn: ToMinutes,
+        }
     }
 }
 
@@ -44,29 +47,3 @@ pub fn minutes_stand()
     ensures sound { (k : ℕ) (es : List Entry) → SoundFrom k es → SoundFrom k (map in_minutes es) }
     ensures order { (s t : ℕ) → s ≤ t → minute_of s ≤ minute_of t }
 {}
-
-impl<F: Feed> Feed for Minute<F> {
-    ghost entries = { λ s. map in_minutes (F.Feed.entries s.beneath) };
-
-    ghost level = { λ s. above (F.Feed.level s.beneath) };
-
-    ghost low = { λ s. above_low (F.Feed.level s.beneath) };
-
-    fn draw(&mut self) -> Option<Entry> {
-        match self.beneath.draw() {
-            Some(entry) => Some(Entry {
-                place: entry.place,
-                content: minute_content(entry.content),
-            }),
-            None => None,
-        }
-    }
-
-    fn has_entry(&self) -> bool {
-        self.beneath.has_entry()
-    }
-
-    fn height(&self) -> u8 {
-        layer_height(self.beneath.height())
-    }
-}

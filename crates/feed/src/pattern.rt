@@ -9,6 +9,7 @@ pub use making::patterns_stand;
 const MOST_WORDS: usize = 8;
 
 // A feed of `count` samples, of which `next` are drawn. Sample k has the stamp first + k / per and the word number k % used.
+// The words are in fixed memory, and a pattern can be copied.
 #[derive(Clone, Copy)]
 pub struct Pattern {
     first: u32,
@@ -28,11 +29,11 @@ pub struct Pattern {
 #[derive(Clone, Copy, PartialEq, Eq, Debug)]
 pub enum PatternRefusal {
     // Are there 1 to 8 words?
-    WordCount,
+    WordCount = 31,
     // Has each word only letters?
-    Word,
+    Word = 32,
     // Is there a sample to each stamp?
-    PerStamp,
+    PerStamp = 33,
     // Is the last stamp in range?
-    LastStamp,
+    LastStamp = 34,
 }

@@ -1,46 +1,49 @@
 // A layer that adds a signed number to each stamp.
 ghost use Rattle.std.specs.Prelude.{◌≡◌, ℕ, List, map, ℤ};
 ghost use Rattle.feed.specs.Entries.{SoundFrom};
-ghost use Rattle.feed.specs.Heights.{above_low};
-ghost use Rattle.feed.specs.Layers.{above, shifted, shifted_content};
+ghost use Rattle.feed.specs.Turned.{clear_shifted};
+ghost use Rattle.feed.specs.Layers.{shifted, shifted_content};
 
 use crate::entry::{Cause, Content, Entry, Fault, Sample};
-use crate::layer::layer_height;
-use crate::source::Feed;
+use crate::layer::{Layer, Turn};
 
-// The feed `beneath` with `by` added to the stamp of each sample.
-// A sample whose stamp would be out of range is spoiled; what is spoiled beneath is passed on.
-#[derive(Drop)]
-pub struct Shift<F> {
-    beneath: F,
+// Adds `by` to the stamp of each sample. A sample whose stamp would be out of range is spoiled; what is spoiled beneath is
+// passed on.
+#[derive(Clone, Copy)]
+pub struct ShiftBy {
     by: i32,
 }
 
-// A content with `by` added to its stamp, by a layer of the height `own`.
-fn shifted_content(content: Content, by: i32, own: u8) -> Content
-    ensures { result ≡ shifted_content by own content }
-{
-    match content {
-        Content::Sample(sample) => match sample.stamp.checked_add_signed(by) {
-            Some(stamp) => Content::Sample(Sample {
-                stamp,
-                letters: sample.letters,
-            }),
-            None => Content::Spoiled(Fault {
+// The feed beneath, shifted.
+pub type Shift<F> = Layer<F, ShiftBy>;
+
+impl Turn for ShiftBy {
+    ghost turned = { λ t own x. shifted_content t.by own x };
+
+    ghost clear = { λ t own x. clear_shifted t.by own x };
+
+    fn turn(&self, content: Content, own: u8) -> Content {
+        let sample = content?;
+        match sample.stamp.checked_add_signed(self.by) {
+            Some(stamp) => Ok(Sample { stamp, ..sample }),
+            None => Err(Fault {
                 cause: Cause::StampRange,
                 height: own,
             }),
-        },
-        Content::Spoiled(fault) => Content::Spoiled(fault),
+        }
     }
 }
 
 impl<F> Shift<F> {
     // The feed `beneath`, shifted by `by`.
     pub fn new(beneath: F, by: i32) -> Shift<F>
-        ensures { (result.beneath ≡ beneath) × (result.by ≡ by) }
+        ensures beneath { result.beneath ≡ beneath }
+        ensures by { result.turn.by ≡ by }
     {
-        Shift { beneath, by }
+        Layer {
+            beneath,
+            turn: ShiftBy { by },
+        }
     }
 }
 
@@ -48,30 +51,3 @@ impl<F> Shift<F> {
 pub fn shifts_stand()
     ensures { (by : ℤ) (own k : ℕ) (es : List Entry) → SoundFrom k es → SoundFrom k (map (shifted by own) es) }
 {}
-
-impl<F: Feed> Feed for Shift<F> {
-    ghost entries = { λ s. map (shifted s.by (above (F.Feed.level s.beneath))) (F.Feed.entries s.beneath) };
-
-    ghost level = { λ s. above (F.Feed.level s.beneath) };
-
-    ghost low = { λ s. above_low (F.Feed.level s.beneath) };
-
-    fn draw(&mut self) -> Option<Entry> {
-        let own = self.height();
-        match self.beneath.draw() {
-            Some(entry) => Some(Entry {
-                place: entry.place,
-                content: shifted_content(entry.content, self.by, own),
-            }),
-            None => None,
-        }
-    }
-
-    fn has_entry(&self) -> bool {
-        self.beneath.has_entry()
-    }
-
-    fn height(&self) -> u8 {
-        layer_height(self.beneath.height())
-    }
-}

@@ -1,6 +1,8 @@
 // Feeds on examples.
 use crate::layer::layer_height;
-use crate::{Cause, Content, Entry, Fault, Feed, Pattern, RecordFeed, Sample, Shift};
+use crate::{
+    Cause, Content, Entry, Fault, Feed, Pattern, PatternRefusal, RecordFeed, Sample, Shift,
+};
 use std::process::Abort;
 
 // Draws all from `feed`, and holds it to `want`.
@@ -24,20 +26,19 @@ fn reads(rt: &impl Abort, bytes: &[u8], want: &[Content]) {
     assert_eq!(rt; feed.height(), 0);
 }
 
-// The number of the refusal of a pattern, or 0.
-fn refused(pattern: &mut Pattern, first: u32, per: u32, words: &[u16], count: u32) -> u8 {
-    match pattern.make(first, per, words, count) {
-        Ok(()) => 0,
-        Err(refusal) => refusal.number(),
-    }
+// What the making of a pattern answers, by the number of the refusal.
+fn made(pattern: &mut Pattern, first: u32, per: u32, words: &[u16], count: u32) -> Result<(), u8> {
+    pattern
+        .make(first, per, words, count)
+        .map_err(PatternRefusal::number)
 }
 
 fn sample(stamp: u32, letters: u16) -> Content {
-    Content::Sample(Sample { stamp, letters })
+    Ok(Sample { stamp, letters })
 }
 
 fn spoiled(cause: Cause, height: u8) -> Content {
-    Content::Spoiled(Fault { cause, height })
+    Err(Fault { cause, height })
 }
 
 #[test]
@@ -81,7 +82,7 @@ fn letters(rt: HostRuntime) {
 fn patterns(rt: HostRuntime) {
     let mut pattern = Pattern::new();
     gives(&rt, &mut pattern, &[]);
-    assert_eq!(rt; refused(&mut pattern, 5, 2, &[1, 2, 4095], 5), 0);
+    assert_eq!(rt; made(&mut pattern, 5, 2, &[1, 2, 4095], 5), Ok(()));
     let want = [
         sample(5, 1),
         sample(5, 2),
@@ -96,14 +97,14 @@ fn patterns(rt: HostRuntime) {
 #[test]
 fn pattern_refusals(rt: HostRuntime) {
     let mut pattern = Pattern::new();
-    assert_eq!(rt; refused(&mut pattern, 7, 1, &[3], 1), 0);
-    assert_eq!(rt; refused(&mut pattern, 0, 0, &[], 9), 31);
-    assert_eq!(rt; refused(&mut pattern, 0, 0, &[0; 9], 9), 31);
-    assert_eq!(rt; refused(&mut pattern, 0, 0, &[0, 4096], 9), 32);
-    assert_eq!(rt; refused(&mut pattern, 0, 0, &[0; 8], 9), 33);
-    assert_eq!(rt; refused(&mut pattern, u32::MAX, 1, &[0], 2), 34);
+    assert_eq!(rt; made(&mut pattern, 7, 1, &[3], 1), Ok(()));
+    assert_eq!(rt; made(&mut pattern, 0, 0, &[], 9), Err(31));
+    assert_eq!(rt; made(&mut pattern, 0, 0, &[0; 9], 9), Err(31));
+    assert_eq!(rt; made(&mut pattern, 0, 0, &[0, 4096], 9), Err(32));
+    assert_eq!(rt; made(&mut pattern, 0, 0, &[0; 8], 9), Err(33));
+    assert_eq!(rt; made(&mut pattern, u32::MAX, 1, &[0], 2), Err(34));
     gives(&rt, &mut pattern, &[sample(7, 3)]);
-    assert_eq!(rt; refused(&mut pattern, u32::MAX, 1, &[0], 1), 0);
+    assert_eq!(rt; made(&mut pattern, u32::MAX, 1, &[0], 1), Ok(()));
     gives(&rt, &mut pattern, &[sample(u32::MAX, 0)]);
 }
 
@@ -111,9 +112,9 @@ fn pattern_refusals(rt: HostRuntime) {
 fn shifts(rt: HostRuntime) {
     let mut pattern = Pattern::new();
     let out = spoiled(Cause::StampRange, 1);
-    assert_eq!(rt; refused(&mut pattern, 9, 1, &[1], 2), 0);
+    assert_eq!(rt; made(&mut pattern, 9, 1, &[1], 2), Ok(()));
     gives(&rt, &mut Shift::new(pattern, -10), &[out, sample(0, 1)]);
-    assert_eq!(rt; refused(&mut pattern, u32::MAX - 3, 1, &[1], 2), 0);
+    assert_eq!(rt; made(&mut pattern, u32::MAX - 3, 1, &[1], 2), Ok(()));
     gives(
         &rt,
         &mut Shift::new(pattern, 3),
@@ -124,7 +125,7 @@ fn shifts(rt: HostRuntime) {
 #[test]
 fn piles(rt: HostRuntime) {
     let mut pattern = Pattern::new();
-    assert_eq!(rt; refused(&mut pattern, 0, 1, &[1], 3), 0);
+    assert_eq!(rt; made(&mut pattern, 0, 1, &[1], 3), Ok(()));
     let mut pile = Shift::new(Shift::new(pattern, -1), -1);
     assert_eq!(rt; pile.height(), 2);
     let want = [

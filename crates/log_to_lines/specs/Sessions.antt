@@ -2,8 +2,7 @@
 use Rattle.std.specs.Prelude.{ℕ, ◌+◌, ◌-◌, ◌^◌, min, Bool, true, false, cond, List, length, Some, None, Ok, Err, Option, Result, ◌==◌, nat_le, nat_lt}
 use Rattle.truth.specs.Plain.{plainly}
 use Rattle.feed.specs.Entries.{letter_count}
-use Rattle.feed.specs.declared.entry.Content.{Content}
-use Rattle.feed.specs.declared.entry.Content.TheVariants as content
+use Rattle.feed.specs.Entries.{Content}
 use Rattle.feed.specs.declared.entry.Entry.{Entry}
 use Rattle.feed.specs.declared.entry.Sample.{Sample}
 use Rattle.instant.specs.declared.refusal.StepRefusal.{StepRefusal}
@@ -52,8 +51,8 @@ sample_report place t (Some o) (Err e) = Refused place (step_number e)
 sample_report place t (Some o) (Ok b) = verdict t o b
 
 abbrev pub content_report : List Record → Option ℕ → List Bool → ℕ → ℕ → Content → Report
-content_report rs p S o place (content.Sample s) = sample_report place s.stamp (offset_after p o s.stamp) (judged rs p S s)
-content_report rs p S o place (content.Spoiled f) = Spoiled place 24 f
+content_report rs p S o place (Ok s) = sample_report place s.stamp (offset_after p o s.stamp) (judged rs p S s)
+content_report rs p S o place (Err f) = Spoiled place 24 f
 
 -- what an entry brings, with the records, the newest stamp, the shelf and the newest offset of the session
 abbrev pub entry_report : List Record → Option ℕ → List Bool → ℕ → Entry → Report

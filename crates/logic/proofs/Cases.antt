@@ -4,8 +4,7 @@ use Rattle.std.proofs.lemmas.Bool.{cond_both, ltb-true}
 use Rattle.feed.specs.declared.entry.Entry.{Entry}
 use Rattle.feed.specs.declared.entry.Fault.{Fault}
 use Rattle.feed.specs.declared.entry.Sample.{Sample}
-use Rattle.feed.specs.declared.entry.Content.{Content}
-use Rattle.feed.specs.declared.entry.Content.TheVariants as content
+use Rattle.feed.specs.Entries.{Content}
 use Rattle.logic.specs.declared.refusal.DrawRefusal.TheVariants.{Counted, Tray, Spoiled, Stamp, Crowded, Slots}
 use Rattle.logic.specs.States.{State}
 use Rattle.logic.specs.Draws.{Drawn, accepted_state, draw, drawn_content, drawn_entry, filled_at, late, most_drawn, most_offsets, next_offset, sampled, treatment, turned_away, unaltered}
@@ -22,10 +21,10 @@ module _ (P : Drawn → Type 0) (st : State) (es : List Entry) (place : ℕ) (x 
     (is-late : P (turned_away st es (Stamp place)))
     (is-crowded : P (turned_away st es (Crowded place)))
     (too_many : (s : Sample) → leb (length (treatment st s (filled_at st s)).held) st.slots ≡ false → P (turned_away st es (Slots place)))
-    (is-good : (s : Sample) → x ≡ content.Sample s → late st.newest s.stamp ≡ false → leb (length (treatment st s (filled_at st s)).held) st.slots ≡ true → P (accepting st es s)) where
+    (is-good : (s : Sample) → x ≡ Ok s → late st.newest s.stamp ≡ false → leb (length (treatment st s (filled_at st s)).held) st.slots ≡ true → P (accepting st es s)) where
   by : (y : Content) → x ≡ y → P (drawn_content st es place y)
-  by (content.Spoiled f) q = is-spoiled f
-  by (content.Sample s) q =
+  by (Err f) q = is-spoiled f
+  by (Ok s) q =
       let t = treatment st s (filled_at st s) in
       cond_both (late st.newest s.stamp) (turned_away st es (Stamp place))
       (cond (ltb (next_offset st.newest s.stamp) most_offsets) (sampled st es place s) (turned_away st es (Crowded place))) P

@@ -9,7 +9,6 @@ use Rattle.truth.specs.declared.table.Condition.{Condition}
 use Rattle.truth.specs.Words.{wait_count}
 use Rattle.feed.specs.declared.entry.Entry.{Entry}
 use Rattle.feed.specs.declared.entry.Sample.{Sample}
-use Rattle.feed.specs.declared.entry.Content.TheVariants as content
 use Rattle.rule.specs.declared.record.Record.{Record}
 use Rattle.rule.specs.Components.{waits, first_component}
 use Rattle.rule.proofs.Numbering.{shifts_some}
@@ -117,7 +116,7 @@ samples_push (x ∷ log) l =
 points_same : (log : List Logged) (e : Entry) → points_of (log ++ (record { entry = e; accepted = false } ∷ [])) ≡ points_of log
 points_same log e = ap (λ ss. reverse (map point_of ss)) (samples_push log (record { entry = e; accepted = false }) ∙ append-nil (accepted_samples log))
 
-points_more : (log : List Logged) (e : Entry) (s : Sample) → e.content ≡ content.Sample s → points_of (log ++ (record { entry = e; accepted = true } ∷ [])) ≡ point_of s ∷ points_of log
+points_more : (log : List Logged) (e : Entry) (s : Sample) → e.content ≡ Ok s → points_of (log ++ (record { entry = e; accepted = true } ∷ [])) ≡ point_of s ∷ points_of log
 points_more log e s q =
     ap (λ ss. reverse (map point_of ss)) (samples_push log (record { entry = e; accepted = true }) ∙ ap (λ c. accepted_samples log ++ sample_in c) q)
     ∙ ap reverse (map-append point_of (accepted_samples log) (s ∷ [])) ∙ reverse-append (map point_of (accepted_samples log)) (point_of s ∷ [])
@@ -176,7 +175,7 @@ module _ (rs : List Record) (slots : ℕ) (start : List Entry) where
 
   module _ (sound : Earlier rs) (few : waits rs ≤ wait_count) (some : 0 < length rs) where
     -- a sample that is accepted
-    module _ (st : State) (e : Entry) (es : List Entry) (log : List Logged) (lines : List Line) (s : Sample) (q : e.content ≡ content.Sample s)
+    module _ (st : State) (e : Entry) (es : List Entry) (log : List Logged) (lines : List Line) (s : Sample) (q : e.content ≡ Ok s)
         (ps : List (Accepted Bool)) (c : Core rs slots start st (e ∷ es) log lines ps) (in_order : late st.newest s.stamp ≡ false) where
       abbrev p : Accepted Bool
       p = point_of s

@@ -4,7 +4,6 @@ use Rattle.std.specs.List.{AllByRecursion}
 use Rattle.std.proofs.lemmas.Bool.{cond-true, eqb-true, le-leb, leb-false, lt-ltb}
 use Rattle.feed.specs.declared.entry.Entry.{Entry}
 use Rattle.feed.specs.declared.entry.Sample.{Sample}
-use Rattle.feed.specs.declared.entry.Content.TheVariants as content
 use Rattle.rule.specs.declared.record.Record.{Record}
 use Rattle.logic.specs.declared.refusal.DrawRefusal.TheVariants.{Tray, Ended, Slots}
 use Rattle.logic.specs.declared.verdict.HeldPoint.{HeldPoint}
@@ -132,10 +131,10 @@ slots_full st (e ∷ es) tray =
 
 -- the first sample is accepted
 first_accepted : (rs : List Record) (slots tray : ℕ) (s : Sample) (place : ℕ) (es : List Entry) → 0 < slots → 0 < tray →
-    (n : ℕ) × (draw_answer (fitted rs slots) (record { place = place; content = content.Sample s } ∷ es) tray ≡ Ok n)
+    (n : ℕ) × (draw_answer (fitted rs slots) (record { place = place; content = Ok s } ∷ es) tray ≡ Ok n)
 first_accepted rs slots tray s place es some room =
     let st = fitted rs slots in
-    let all = record { place = place; content = content.Sample s } ∷ es in
+    let all = record { place = place; content = Ok s } ∷ es in
     let t = treatment st s (filled_at st s) in
     let total = treated_total (record { lines = []; held = [] }) (to_treat st s (filled_at st s)) in
     let fits : length t.held ≤ slots = omega arith in

@@ -7,8 +7,7 @@ use Rattle.truth.specs.Tables.{openly}
 use Rattle.truth.specs.Replacing.{waiting, replaced}
 use Rattle.feed.specs.declared.entry.Entry.{Entry}
 use Rattle.feed.specs.declared.entry.Sample.{Sample}
-use Rattle.feed.specs.declared.entry.Content.{Content}
-use Rattle.feed.specs.declared.entry.Content.TheVariants as content
+use Rattle.feed.specs.Entries.{Content}
 use Rattle.feed.specs.Entries.{letter_of}
 use Rattle.rule.specs.declared.record.Record.{Record}
 use Rattle.rule.specs.Components.{left_of, right_of, shifts, own_waits, first_component, first_wait, looks_ahead, earlier}
@@ -211,10 +210,10 @@ sampled st es place s = let f = filled_at st s in slotted st es place s f (treat
 
 -- the questions of an entry
 abbrev pub drawn_content : State → List Entry → ℕ → Content → Drawn
-drawn_content st es place (content.Sample s) =
+drawn_content st es place (Ok s) =
     cond (late st.newest s.stamp) (turned_away st es (Stamp place))
     (cond (nat_lt (next_offset st.newest s.stamp) most_offsets) (sampled st es place s) (turned_away st es (Crowded place)))
-drawn_content st es place (content.Spoiled f) = turned_away st es (Spoiled place f)
+drawn_content st es place (Err f) = turned_away st es (Spoiled place f)
 
 -- is an entry left?
 abbrev pub drawn_entry : State → List Entry → Drawn

@@ -4,7 +4,6 @@ use Rattle.truth.specs.declared.table.Condition.{Condition}
 use Rattle.truth.specs.Plain.{plainly}
 use Rattle.truth.specs.Replacing.{waiting, replaced}
 use Rattle.feed.specs.declared.entry.Entry.{Entry}
-use Rattle.feed.specs.declared.entry.Content.TheVariants as content
 use Rattle.rule.specs.declared.interval.Interval.{Interval}
 use Rattle.rule.specs.declared.record.Record.{Record}
 use Rattle.rule.specs.declared.record.Record.TheVariants as kind
@@ -26,7 +25,7 @@ Sampled = ℕ × ℕ
 -- the entries of some samples, counted from a place
 abbrev pub entries_from : ℕ → List Sampled → List Entry
 entries_from k [] = []
-entries_from k (x ∷ xs) = record { place = k; content = content.Sample (record { stamp = x.0; letters = x.1 }) } ∷ entries_from (k + 1) xs
+entries_from k (x ∷ xs) = record { place = k; content = Ok (record { stamp = x.0; letters = x.1 }) } ∷ entries_from (k + 1) xs
 
 -- what one draw answered, and its lines
 abbrev pub Told : Type 0

@@ -4,8 +4,7 @@ use Rattle.std.specs.List.{ContainsAt as Has, AllByRecursion}
 use Rattle.truth.specs.declared.table.Condition.{Condition}
 use Rattle.feed.specs.declared.entry.Entry.{Entry}
 use Rattle.feed.specs.declared.entry.Sample.{Sample}
-use Rattle.feed.specs.declared.entry.Content.{Content}
-use Rattle.feed.specs.declared.entry.Content.TheVariants as content
+use Rattle.feed.specs.Entries.{Content}
 use Rattle.feed.specs.Entries.{letter_of}
 use Rattle.rule.specs.declared.record.Record.{Record}
 use Rattle.rule.specs.Components.{shifts, first_component, waits}
@@ -78,8 +77,8 @@ pub data Reached (rs : List Record) (slots : ℕ) (start : List Entry) : State �
 
 -- the sample of an entry, if it is one
 abbrev pub sample_in : Content → List Sample
-sample_in (content.Sample s) = s ∷ []
-sample_in (content.Spoiled f) = []
+sample_in (Ok s) = s ∷ []
+sample_in (Err f) = []
 
 -- the samples of the accepted entries of a log, in order
 abbrev pub accepted_samples : List Logged → List Sample

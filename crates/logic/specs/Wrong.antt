@@ -2,7 +2,6 @@
 use Rattle.std.specs.Prelude.{◌≡◌, ℕ, ◌<◌, true, List, [], ◌∷◌, length, Ok, Err}
 use Rattle.feed.specs.declared.entry.Entry.{Entry}
 use Rattle.feed.specs.declared.entry.Sample.{Sample}
-use Rattle.feed.specs.declared.entry.Content.TheVariants as content
 use Rattle.rule.specs.declared.record.Record.{Record}
 use Rattle.rule.specs.declared.record.Record.TheVariants.{Letter}
 use Rattle.logic.specs.declared.refusal.DrawRefusal.TheVariants.{Ended, Slots}
@@ -20,7 +19,7 @@ lit = Letter 0 ∷ []
 
 -- a sample of a word at the stamp 5, at a place
 abbrev pub seen : ℕ → ℕ → Entry
-seen place word = record { place = place; content = content.Sample (record { stamp = 5; letters = word }) }
+seen place word = record { place = place; content = Ok (record { stamp = 5; letters = word }) }
 
 -- the entry was accepted
 abbrev pub taken : Entry → Logged
@@ -41,7 +40,7 @@ pub record WrongWatchesFail : Type 0 where
       Not (KeptPromise rs slots start st rest log lines)
   -- one that refuses everything: the first sample is accepted by every rule, with any slot and any line in the tray
   pub all_refused : (rs : List Record) (slots tray : ℕ) (s : Sample) (place : ℕ) (es : List Entry) → 0 < slots → 0 < tray →
-      (n : ℕ) × (draw_answer (fitted rs slots) (record { place = place; content = content.Sample s } ∷ es) tray ≡ Ok n)
+      (n : ℕ) × (draw_answer (fitted rs slots) (record { place = place; content = Ok s } ∷ es) tray ≡ Ok n)
   -- one that says ended while an entry is left
   pub ended_early : (st : State) (e : Entry) (es : List Entry) (tray : ℕ) → Not (draw_answer st (e ∷ es) tray ≡ Err Ended)
   -- one that is short of slots before it has settled and joined: the sample was drawn, and more would be held than there are slots

@@ -1,8 +1,7 @@
 -- A refused draw gives no lines.
 use Rattle.std.proofs.Common.{◌≡◌, ℕ, Bool, true, false, cond, ltb, leb, List, [], ◌∷◌, length, Ok, Err, refl, arith}
 use Rattle.feed.specs.declared.entry.Entry.{Entry}
-use Rattle.feed.specs.declared.entry.Content.{Content}
-use Rattle.feed.specs.declared.entry.Content.TheVariants as content
+use Rattle.feed.specs.Entries.{Content}
 use Rattle.logic.specs.declared.refusal.DrawRefusal.{DrawRefusal}
 use Rattle.logic.specs.States.{State}
 use Rattle.logic.specs.declared.refusal.DrawRefusal.TheVariants.{Counted, Crowded, Slots, Stamp, Tray}
@@ -16,8 +15,8 @@ either_way true x y p q = p
 either_way false x y p q = q
 
 of_content : (st : State) (es : List Entry) (place : ℕ) (x : Content) → Silent (drawn_content st es place x)
-of_content st es place (content.Spoiled f) = λ why e. refl
-of_content st es place (content.Sample s) =
+of_content st es place (Err f) = λ why e. refl
+of_content st es place (Ok s) =
     let t = treatment st s (filled_at st s) in
     let held : Drawn = record { answer = Ok (length t.lines); state = accepted_state st s (filled_at st s) t; rest = es; lines = t.lines } in
     let answered : Silent held = λ why e. absurd (let z : ◌≡◌ {A = ℕ} 0 1 = cc in omega arith) in

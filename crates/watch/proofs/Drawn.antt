@@ -2,8 +2,7 @@
 use Rattle.std.proofs.Common.{◌≡◌, ℕ, ◌<◌, Bool, true, false, cond, ltb, leb, List, [], ◌∷◌, length, Some, None, Ok, Option, sym, refl, ap, ◌∙◌, ap₂, arith}
 use Rattle.std.proofs.lemmas.Bool.{lt-ltb}
 use Rattle.feed.specs.Lists.{first, others}
-use Rattle.feed.specs.declared.entry.Content.{Content}
-use Rattle.feed.specs.declared.entry.Content.TheVariants as content
+use Rattle.feed.specs.Entries.{Content}
 use Rattle.feed.specs.declared.entry.Entry.{Entry}
 use Rattle.logic.specs.declared.refusal.DrawRefusal.TheVariants.{Counted, Crowded, Slots, Stamp, Tray}
 use Rattle.logic.specs.States.{State}
@@ -26,8 +25,8 @@ rest_either true x y es p q = p
 rest_either false x y es p q = q
 
 pub content_rest : (st : State) (es : List Entry) (place : ℕ) (x : Content) → (drawn_content st es place x).rest ≡ es
-content_rest st es place (content.Spoiled f) = refl
-content_rest st es place (content.Sample s) =
+content_rest st es place (Err f) = refl
+content_rest st es place (Ok s) =
     let t = treatment st s (filled_at st s) in
     let held : Drawn = record { answer = Ok (length t.lines); state = accepted_state st s (filled_at st s) t; rest = es; lines = t.lines } in
     rest_either (late st.newest s.stamp) (turned_away st es (Stamp place))

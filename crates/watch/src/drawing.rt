@@ -7,7 +7,7 @@ ghost use Rattle.watch.specs.States.{state};
 
 use crate::naming::{is_late, next_point};
 use crate::watch::Watch;
-use feed::{Content, Entry, Sample};
+use feed::{Entry, Sample};
 use logic::{DrawRefusal, Line};
 
 impl Watch {
@@ -29,9 +29,9 @@ impl Watch {
     ) -> Result<usize, DrawRefusal>
         requires drawn { self.old.drawn < 2 ^ 32 - 1 }
         requires tray { self.old.count < length tray.old }
-        ensures answer { (es : List Entry) → result ≡ (drawn_content (state self.old) es place (Content.Sample sample)).answer }
-        ensures state { (es : List Entry) → state self.new ≡ (drawn_content (state self.old) es place (Content.Sample sample)).state }
-        ensures tray { (es : List Entry) → tray.new ≡ onto (drawn_content (state self.old) es place (Content.Sample sample)).lines tray.old }
+        ensures answer { (es : List Entry) → result ≡ (drawn_content (state self.old) es place (Ok sample)).answer }
+        ensures state { (es : List Entry) → state self.new ≡ (drawn_content (state self.old) es place (Ok sample)).state }
+        ensures tray { (es : List Entry) → tray.new ≡ onto (drawn_content (state self.old) es place (Ok sample)).lines tray.old }
     {
         if is_late(self.newest, sample.stamp) {
             self.turn_away();
@@ -56,8 +56,8 @@ impl Watch {
     {
         let place = entry.place;
         match entry.content {
-            Content::Sample(sample) => self.take_sample(place, sample, tray),
-            Content::Spoiled(fault) => {
+            Ok(sample) => self.take_sample(place, sample, tray),
+            Err(fault) => {
                 self.turn_away();
                 Err(DrawRefusal::Spoiled { place, fault })
             }

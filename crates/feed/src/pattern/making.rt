@@ -4,7 +4,7 @@ ghost use Rattle.feed.specs.Entries.{SoundFrom};
 ghost use Rattle.feed.specs.Heights.{ground_low};
 ghost use Rattle.feed.specs.Patterns.{Unchanged, all_letters, left_after, pattern_answer, pattern_entries, pattern_left, pattern_number};
 
-use crate::entry::{Content, Entry, LETTER_LIMIT, Sample};
+use crate::entry::{Entry, LETTER_LIMIT, Sample};
 use crate::pattern::{MOST_WORDS, Pattern, PatternRefusal};
 use crate::source::Feed;
 
@@ -13,12 +13,7 @@ impl PatternRefusal {
     pub fn number(self) -> u8
         ensures { result ≡ pattern_number self }
     {
-        match self {
-            PatternRefusal::WordCount => 31,
-            PatternRefusal::Word => 32,
-            PatternRefusal::PerStamp => 33,
-            PatternRefusal::LastStamp => 34,
-        }
+        self as u8
     }
 }
 
@@ -26,12 +21,7 @@ impl PatternRefusal {
 fn all_letters(words: &[u16]) -> bool
     ensures { result ≡ all_letters words.now }
 {
-    for w in words {
-        if *w >= LETTER_LIMIT {
-            return false;
-        }
-    }
-    true
+    words.iter().all(|&w| w < LETTER_LIMIT)
 }
 
 impl Pattern {
@@ -113,7 +103,7 @@ impl Feed for Pattern {
         self.next = k + 1;
         Some(Entry {
             place: k as u64,
-            content: Content::Sample(sample),
+            content: Ok(sample),
         })
     }
 

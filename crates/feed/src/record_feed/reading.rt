@@ -16,9 +16,9 @@ fn record_content(a: u8, b: u8, c: u8, d: u8, low: u8, high: u8) -> Content
     let stamp = u32::from_le_bytes([a, b, c, d]);
     let letters = u16::from_le_bytes([low, high]);
     if letters < LETTER_LIMIT {
-        Content::Sample(Sample { stamp, letters })
+        Ok(Sample { stamp, letters })
     } else {
-        Content::Spoiled(Fault {
+        Err(Fault {
             cause: Cause::UpperBits,
             height: 0,
         })
@@ -62,7 +62,7 @@ impl Feed for RecordFeed<'_> {
                 Some(Entry { place, content })
             }
             _ => {
-                let content = Content::Spoiled(Fault {
+                let content = Err(Fault {
                     cause: Cause::ShortRecord,
                     height: 0,
                 });

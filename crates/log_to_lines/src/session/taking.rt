@@ -4,7 +4,7 @@ ghost use Rattle.rule.specs.Reading.{asked, instant_questions, read_table, recor
 ghost use Rattle.log_to_lines.specs.Sessions.{begins, counted, entry_report, is_verdict, judged, offset_after, one_more, sample_report, told};
 
 use crate::session::{SHELF, Session};
-use feed::{Content, Entry, Sample};
+use feed::{Entry, Sample};
 use instant::InstantWatch;
 use lines::{Counts, Report};
 use logic::{Line, Point};
@@ -71,12 +71,12 @@ impl Session {
     {
         let place = entry.place;
         match entry.content {
-            Content::Spoiled(fault) => Report::Spoiled {
+            Err(fault) => Report::Spoiled {
                 place,
                 number: SPOILED,
                 fault,
             },
-            Content::Sample(sample) => self.judge_sample(place, sample),
+            Ok(sample) => self.judge_sample(place, sample),
         }
     }
 

@@ -1,6 +1,6 @@
 // A session on examples that no card can reach.
 use crate::session::Session;
-use feed::{Content, Entry, Sample};
+use feed::{Entry, Sample};
 use lines::Report;
 use std::test::Fail;
 
@@ -8,7 +8,7 @@ use std::test::Fail;
 fn judged(session: &mut Session, stamp: u32) -> Report {
     session.judge(Entry {
         place: 7,
-        content: Content::Sample(Sample { stamp, letters: 0 }),
+        content: Ok(Sample { stamp, letters: 0 }),
     })
 }
 

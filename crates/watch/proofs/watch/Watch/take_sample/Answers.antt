@@ -2,7 +2,6 @@
 use Rattle.std.proofs.Common.{◌≡◌, ℕ, Bool, true, false, cond, ltb, List, Some, None, Option, sym, refl, ap, ◌∙◌, ap₂, arith}
 use Rattle.feed.specs.Lists.{onto}
 use Rattle.feed.specs.declared.entry.Entry.{Entry}
-use Rattle.feed.specs.declared.entry.Content.TheVariants as content
 use Rattle.logic.specs.declared.refusal.DrawRefusal.TheVariants.{Stamp, Crowded}
 use Rattle.logic.specs.Draws.{Drawn, drawn_content, late, most_offsets, next_offset, sampled, turned_away}
 use Rattle.watch.specs.States.{state}
@@ -19,7 +18,7 @@ returns-in-Some c =
     let place = c.args.place in
     let fits = was_some (ltb (next_offset st.newest s.stamp) most_offsets) _ _ c.in-Some.ensures in
     let in-time : false ≡ late st.newest s.stamp = c.if-is_late.ensures in
-    let whole : (es : List Entry) → sampled st es place s ≡ drawn_content st es place (content.Sample s) = λ es.
+    let whole : (es : List Entry) → sampled st es place s ≡ drawn_content st es place (Ok s) = λ es.
     ap₂ (λ l f. cond l (turned_away st es (Stamp place)) (cond f (sampled st es place s) (turned_away st es (Crowded place)))) in-time (sym fits) in
     record {
       answer = λ es. c.accept.ensures.answer es ∙ ap (λ (d : Drawn). d.answer) (whole es);
@@ -38,7 +37,7 @@ returns-in-None c =
     let place = c.args.place in
     let full = was_none (ltb (next_offset st.newest s.stamp) most_offsets) _ c.in-None.ensures in
     let in-time : false ≡ late st.newest s.stamp = c.if-is_late.ensures in
-    let whole : (es : List Entry) → turned_away st es (Crowded place) ≡ drawn_content st es place (content.Sample s) = λ es.
+    let whole : (es : List Entry) → turned_away st es (Crowded place) ≡ drawn_content st es place (Ok s) = λ es.
     ap₂ (λ l f. cond l (turned_away st es (Stamp place)) (cond f (sampled st es place s) (turned_away st es (Crowded place)))) in-time (sym full) in
     record {
       answer = λ es. ap (λ (d : Drawn). d.answer) (whole es);
