@@ -1,5 +1,5 @@
 -- The ways that a draw can go, so that what holds of each of them holds of every draw.
-use Rattle.std.proofs.Common.{◌≡◌, ℕ, ◌<◌, true, false, cond, ltb, leb, List, length, Ok, refl}
+use Rattle.std.proofs.Common.{◌≡◌, ℕ, ◌<◌, true, false, cond, ltb, leb, List, length, Ok, Err, refl}
 use Rattle.std.proofs.lemmas.Bool.{cond_both, ltb-true}
 use Rattle.feed.specs.declared.entry.Entry.{Entry}
 use Rattle.feed.specs.declared.entry.Fault.{Fault}

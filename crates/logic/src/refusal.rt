@@ -5,7 +5,7 @@ ghost use Rattle.logic.specs.Refusals.{draw_number};
 use feed::Fault;
 
 // The first question that was answered no. The first three alter nothing; the others have drawn the entry at a place.
-#[derive(Clone, Copy)]
+#[derive(Clone, Copy, PartialEq, Eq, Debug)]
 pub enum DrawRefusal {
     // As many entries were drawn as can be counted.
     Counted,

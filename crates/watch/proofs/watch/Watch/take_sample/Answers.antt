@@ -1,5 +1,5 @@
 -- What is left to prove of `take_sample`.
-use Rattle.std.proofs.Common.{◌≡◌, ℕ, Bool, true, false, cond, ltb, List, Some, None, Option, sym, refl, ap, ◌∙◌, ap₂, arith}
+use Rattle.std.proofs.Common.{◌≡◌, ℕ, Bool, true, false, cond, ltb, List, Some, None, Ok, Option, sym, refl, ap, ◌∙◌, ap₂, arith}
 use Rattle.feed.specs.Lists.{onto}
 use Rattle.feed.specs.declared.entry.Entry.{Entry}
 use Rattle.logic.specs.declared.refusal.DrawRefusal.TheVariants.{Stamp, Crowded}
