@@ -1,50 +1,27 @@
--- Decimals of numbers.
-use Rattle.std.proofs.Common.{◌≡◌, ℕ, ◌+◌, ◌-◌, ◌*◌, ◌/◌, ◌%◌, ◌^◌, ◌<◌, ◌≤◌, eqb, List, [], ◌∷◌, ◌++◌, map, length, get_or, sym, refl, ap, ◌∙◌, ⊎_elim, arith}
+-- Decimals of numbers: what the library prints is our definition, and they tell their number.
+use Rattle.std.proofs.Common.{◌≡◌, ℕ, zero, suc, ◌+◌, ◌-◌, ◌*◌, ◌^◌, ◌<◌, ◌≤◌, List, [], ◌∷◌, map, get_or, sym, refl, ap, ◌∙◌, arith}
+use Rattle.std.specs.Fmt as fmt
 use Rattle.std.specs.Int.Digits.{digits_of, number_from_digits_after}
-use Rattle.std.proofs.lemmas.Int.Digits.{digits_of_step, length-digits_of-le, all_below_base_digits_of, first_digits_of, number_digits_of}
+use Rattle.std.proofs.lemmas.Fmt.{decimal_digit, decimal-digits_of}
+use Rattle.std.proofs.lemmas.Int.Digits.{all_below_base_digits_of, first_digits_of, number_digits_of}
+use Rattle.std.proofs.lemmas.List.{append_assoc}
+use Rattle.std.proofs.lemmas.Bool.Decides.{nat_tests}
 use Rattle.std.proofs.ByRecursion.{All-map, All-weaker}
-use Rattle.std.proofs.lemmas.List.{map-append, length-map, length_push}
-use Rattle.std.proofs.lemmas.Bool.{cases_eq, eq-eqb, ne_eqb, cond-true, cond-false}
 use Rattle.lines.specs.Decimals.{decimal, digit, read_on, DecimalsStand}
 
-decimal_none : (n : ℕ) → n ≡ 0 → decimal n ≡ digit 0 ∷ []
+-- any number but 0 in decimals
+decimal_suc : (n : ℕ) → decimal (suc n) ≡ map digit (digits_of 10 (suc n))
 unfolding decimal
-decimal_none n e = cond-true (eqb n 0) (digit 0 ∷ []) (map digit (digits_of 10 n)) (eq-eqb n 0 e)
+decimal_suc n = grind (arith, nat_tests)
 
-decimal_some : (n : ℕ) → 0 < n → decimal n ≡ map digit (digits_of 10 n)
+-- what the library prints of a number of 64 bits
+pub decimal_is_printed : (n : ℕ) → n < 2 ^ 64 → fmt.decimal n ≡ decimal n
 unfolding decimal
-decimal_some n h = cond-false (eqb n 0) (digit 0 ∷ []) (map digit (digits_of 10 n)) (ne_eqb n 0 (λ e. omega arith))
+decimal_is_printed zero h = decimal_digit 0 (omega arith)
+decimal_is_printed (suc n) h = decimal-digits_of (suc n) (omega arith) h ∙ sym (decimal_suc n)
 
--- the last digit behind those of a tenth
-decimal_last : (n : ℕ) → 0 < n → decimal n ≡ map digit (digits_of 10 (n / 10)) ++ ((48 + n % 10) ∷ [])
-decimal_last n h =
-    decimal_some n h ∙ ap (map digit) (digits_of_step 10 n (omega arith) h)
-    ∙ map-append digit (digits_of 10 (n / 10)) (n % 10 ∷ [])
-
-pub decimal_one : (n : ℕ) → n < 10 → decimal n ≡ (48 + n % 10) ∷ []
-decimal_one n h =
-    ⊎_elim
-    (λ e. decimal_none n e ∙ (let z : 48 ≡ 48 + n % 10 = omega arith in ap (λ d. d ∷ []) z))
-    (λ e. decimal_last n (omega arith) ∙ (let z : n / 10 ≡ 0 = omega arith in ap (λ q. map digit (digits_of 10 q) ++ ((48 + n % 10) ∷ [])) z))
-    (cases_eq n 0)
-
-pub decimal_more : (n : ℕ) → 10 ≤ n → decimal n ≡ decimal (n / 10) ++ ((48 + n % 10) ∷ [])
-decimal_more n h =
-    let some : 0 < n / 10 = omega arith in
-    decimal_last n (omega arith) ∙ ap (λ ds. ds ++ ((48 + n % 10) ∷ [])) (sym (decimal_some (n / 10) some))
-
-pub length_decimal_one : (n : ℕ) → n < 10 → length (decimal n) ≡ 1
-length_decimal_one n h = ap length (decimal_one n h)
-
-pub length_decimal_more : (n : ℕ) → 10 ≤ n → length (decimal n) ≡ length (decimal (n / 10)) + 1
-length_decimal_more n h = ap length (decimal_more n h) ∙ length_push (decimal (n / 10)) (48 + n % 10)
-
-pub length_decimal_le : (k n : ℕ) → 0 < k → n < 10 ^ k → length (decimal n) ≤ k
-length_decimal_le k n p h =
-    ⊎_elim
-    (λ e. rw (decimal_none n e) (omega arith))
-    (λ e. rw (decimal_some n (omega arith), length-map) (length-digits_of-le 10 k n (omega arith) h))
-    (cases_eq n 0)
+-- for texts that are put one behind another, numbers among them
+pub ruleset printed = (append_assoc, decimal_is_printed)
 
 read_digits : (m : ℕ) (ds : List ℕ) → read_on m (map digit ds) ≡ number_from_digits_after 10 m ds
 read_digits m [] = refl
@@ -57,18 +34,15 @@ first_digit [] h = absurd (omega arith)
 first_digit (d ∷ ds) h = omega arith
 
 pub decimals_stand : DecimalsStand
-decimals_stand n =
+unfolding decimal
+decimals_stand zero = (refl, ((omega arith, omega arith), tt), (λ h. absurd (omega arith)), λ _. refl)
+decimals_stand (suc n) =
     let Digit : ℕ → Type 0 = (λ b. (48 ≤ b) × (b ≤ 57)) in
-    let ds = digits_of 10 n in
-    ⊎_elim
-    (λ e. rw (decimal_none n e) (sym e, ((omega arith, omega arith), tt), (λ h. absurd (omega arith)), λ _. refl))
-    (λ e.
-    let h : 0 < n = omega arith in
-    let all = All-weaker (λ d. d < 10) (λ d. Digit (digit d)) (λ d l. (omega arith, omega arith)) ds (all_below_base_digits_of 10 n (omega arith)) in
-    rw (decimal_some n h) (
-      read_digits 0 ds ∙ number_digits_of 10 n (omega arith),
+    let ds = digits_of 10 (suc n) in
+    let all = All-weaker (λ d. d < 10) (λ d. Digit (digit d)) (λ d l. (omega arith, omega arith)) ds (all_below_base_digits_of 10 (suc n) (omega arith)) in
+    rw (decimal_suc n) (
+      read_digits 0 ds ∙ number_digits_of 10 (suc n) (omega arith),
       All-map Digit digit ds all,
-      (λ _. first_digit ds (first_digits_of 10 n (omega arith) h)),
-      λ z. absurd (e z),
-    ))
-    (cases_eq n 0)
+      (λ _. first_digit ds (first_digits_of 10 (suc n) (omega arith) (omega arith))),
+      λ z. absurd (omega arith),
+    )

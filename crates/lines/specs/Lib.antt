@@ -1,5 +1,4 @@
 -- Definitions that the contracts on lines cite.
 pub mod Decimals
-pub mod Texts
 pub mod Lines
 pub mod Reports

@@ -1,7 +1,6 @@
 // Lines of text: all that the program can print, one line each, as bytes.
 #![tactic(auto)]
 
-mod parts;
 mod report;
 mod text;
 mod write;

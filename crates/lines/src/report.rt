@@ -3,7 +3,7 @@ use feed::Fault;
 use logic::{Line, Point};
 
 // How many entries were drawn, accepted and turned away, and how many points are held.
-#[derive(Clone, Copy)]
+#[derive(Clone, Copy, PartialEq, Eq, Debug)]
 pub struct Counts {
     pub drawn: u32,
     pub accepted: u32,
@@ -12,7 +12,7 @@ pub struct Counts {
 }
 
 // All that the program can print, one line each.
-#[derive(Clone, Copy)]
+#[derive(Clone, Copy, PartialEq, Eq, Debug)]
 pub enum Report {
     // A line of the verdict.
     Line(Line),

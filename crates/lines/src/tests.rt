@@ -1,21 +1,17 @@
 // Lines on examples.
 use crate::{Counts, Report, TRAY, write_report};
+use arrayvec::ArrayString;
 use feed::{Cause, Fault};
 use logic::{Line, Point};
+use std::fmt::Write;
 use std::process::Abort;
 
 // Writes a report, and holds the tray to `want` and the bytes that it had.
 fn writes(rt: &impl Abort, report: Report, want: &[u8]) {
     let mut tray = [7; TRAY];
     let len = write_report(report, &mut tray);
-    assert_eq!(rt; len, want.len());
-    for (i, b) in tray.iter().enumerate() {
-        if i < want.len() {
-            assert_eq!(rt; *b, want[i]);
-        } else {
-            assert_eq!(rt; *b, 7);
-        }
-    }
+    assert_eq!(rt; &tray[..len], want);
+    assert!(rt; tray[len..].iter().all(|b| *b == 7));
 }
 
 fn point(stamp: u32, offset: u16) -> Point {
@@ -69,6 +65,15 @@ fn refusals(rt: HostRuntime) {
     );
     writes(&rt, Report::RuleRefused { number: 3 }, b"rule refused 3\n");
     writes(&rt, Report::LogTooLong, b"log too long\n");
+}
+
+#[test]
+fn display(rt: HostRuntime) {
+    let mut shown = ArrayString::<TRAY>::new();
+    let report = refused(4, 25);
+    assert!(rt; write!(shown, "{report}, {report:>20}").is_ok());
+    assert_eq!(rt; shown.as_str(), "entry 4 refused 25,   entry 4 refused 25");
+    assert!(rt; report != refused(4, 24));
 }
 
 #[test]

@@ -1,49 +1,53 @@
 // The lines of reports.
-ghost use Rattle.std.specs.Prelude.{◌≡◌, ◌≤◌, ◌++◌, length};
+#![tactic(auto, using(crate::proofs::Decimals::printed))]
+
+ghost use Rattle.std.specs.Prelude.{◌≡◌, ◌≤◌, ◌++◌, length, Some};
+ghost use Rattle.std.specs.Fmt.{styled_text};
+ghost use Rattle.arrayvec.specs.ArrayString.{array_string_len};
 ghost use Rattle.lines.specs.Decimals.{DecimalsStand};
 ghost use Rattle.lines.specs.Lines.{point_text, line_text, refused_text, counts_text};
 ghost use Rattle.lines.specs.Reports.{report_text, line_bytes};
-ghost use Rattle.lines.specs.Texts.{content};
 ghost use Rattle.feed.specs.Lists.{onto};
 
 use crate::report::{Counts, Report};
-use crate::text::{TRAY, Text};
+use crate::text::{TRAY, Text, put_labelled, put_number};
 use logic::{Line, Point};
+use std::fmt;
 
 // The text of a point.
 fn point_text(point: Point) -> Text
-    ensures text { content result ≡ point_text point }
-    ensures len { result.len ≤ 21 }
+    ensures text { result.bytes ≡ point_text point }
+    ensures len { array_string_len result ≤ 16 }
 {
     let mut text = Text::new();
-    text.put_number(point.stamp);
-    text.put_labelled(b":", u32::from(point.offset));
+    put_number(&mut text, point.stamp);
+    put_labelled(&mut text, ":", point.offset);
     text
 }
 
 // The text of a point and what is said of it.
-fn said_text(point: Point, words: &[u8]) -> Text
+fn said_text(point: Point, words: &str) -> Text
     requires { length words.now ≤ 6 }
-    ensures text { content result ≡ point_text point ++ words.now }
-    ensures len { result.len ≤ 79 }
+    ensures text { result.bytes ≡ point_text point ++ words.now }
+    ensures len { array_string_len result ≤ 79 }
 {
     let mut text = point_text(point);
-    text.put(words);
+    text.push_str(words);
     text
 }
 
 // The text of a line of the verdict.
 fn line_text(line: Line) -> Text
-    ensures text { content result ≡ line_text line }
-    ensures len { result.len ≤ 79 }
+    ensures text { result.bytes ≡ line_text line }
+    ensures len { array_string_len result ≤ 79 }
 {
     match line {
-        Line::True(point) => said_text(point, b" true"),
-        Line::False(point) => said_text(point, b" false"),
+        Line::True(point) => said_text(point, " true"),
+        Line::False(point) => said_text(point, " false"),
         Line::Joined { later, earlier } => {
             let mut text = point_text(later);
-            text.put(b" = ");
-            text.append(&point_text(earlier));
+            text.push_str(" = ");
+            text.push_str(&point_text(earlier));
             text
         }
     }
@@ -51,36 +55,36 @@ fn line_text(line: Line) -> Text
 
 // The text of an entry that is refused.
 fn refused_text(place: u64, number: u8) -> Text
-    ensures text { content result ≡ refused_text place number }
-    ensures len { result.len ≤ 45 }
+    ensures text { result.bytes ≡ refused_text place number }
+    ensures len { array_string_len result ≤ 38 }
 {
     let mut text = Text::new();
-    text.put_place(b"entry ", place);
-    text.put_labelled(b" refused ", u32::from(number));
+    put_labelled(&mut text, "entry ", place);
+    put_labelled(&mut text, " refused ", number);
     text
 }
 
 // The text of what was counted.
 fn counts_text(counts: Counts) -> Text
-    ensures text { content result ≡ counts_text counts }
-    ensures len { result.len ≤ 79 }
+    ensures text { result.bytes ≡ counts_text counts }
+    ensures len { array_string_len result ≤ 79 }
 {
     let mut text = Text::new();
-    text.put_labelled(b"drawn ", counts.drawn);
-    text.put_labelled(b" accepted ", counts.accepted);
-    text.put_labelled(b" turned-away ", counts.turned_away);
-    text.put_labelled(b" held ", counts.held);
+    put_labelled(&mut text, "drawn ", counts.drawn);
+    put_labelled(&mut text, " accepted ", counts.accepted);
+    put_labelled(&mut text, " turned-away ", counts.turned_away);
+    put_labelled(&mut text, " held ", counts.held);
     text
 }
 
 // The text of a report.
 fn report_text(report: Report) -> Text
-    ensures text { content result ≡ report_text report }
-    ensures len { result.len ≤ 79 }
+    ensures text { result.bytes ≡ report_text report }
+    ensures len { array_string_len result ≤ 79 }
 {
     match report {
         Report::Line(line) => line_text(line),
-        Report::Held(point) => said_text(point, b" held"),
+        Report::Held(point) => said_text(point, " held"),
         Report::Refused { place, number } => refused_text(place, number),
         Report::Spoiled {
             place,
@@ -88,17 +92,32 @@ fn report_text(report: Report) -> Text
             fault,
         } => {
             let mut text = refused_text(place, number);
-            text.put_labelled(b" cause ", u32::from(fault.cause.number()));
-            text.put_labelled(b" layer ", u32::from(fault.height));
+            put_labelled(&mut text, " cause ", fault.cause.number());
+            put_labelled(&mut text, " layer ", fault.height);
             text
         }
         Report::Counts(counts) => counts_text(counts),
         Report::RuleRefused { number } => {
             let mut text = Text::new();
-            text.put_labelled(b"rule refused ", u32::from(number));
+            put_labelled(&mut text, "rule refused ", number);
             text
         }
-        Report::LogTooLong => Text::of(b"log too long"),
+        Report::LogTooLong => {
+            let mut text = Text::new();
+            text.push_str("log too long");
+            text
+        }
+    }
+}
+
+// A report prints as its text.
+impl fmt::Display for Report {
+    ghost output = { λ r. Some (report_text r) };
+
+    ghost styled_output = { λ r s. Some (styled_text s (report_text r)) };
+
+    fn fmt<W: fmt::Write>(&self, f: &mut fmt::Formatter<W>) -> fmt::Result {
+        f.pad(&report_text(*self))
     }
 }
 
@@ -109,8 +128,10 @@ pub fn write_report(report: Report, tray: &mut [u8; TRAY]) -> usize
     ensures fits { result ≤ 80 }
 {
     let mut line = report_text(report);
-    line.put(b"\n");
-    line.copy_to(tray)
+    line.push_str("\n");
+    let len = line.len();
+    tray[..len].copy_from_slice(line.as_bytes());
+    len
 }
 
 // Decimals tell their number.

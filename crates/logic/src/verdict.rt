@@ -2,14 +2,14 @@
 use truth::Condition;
 
 // The name of an accepted point, written stamp:offset. The offset counts from 0 among the points of that stamp.
-#[derive(Clone, Copy)]
+#[derive(Clone, Copy, PartialEq, Eq, Debug)]
 pub struct Point {
     pub stamp: u32,
     pub offset: u16,
 }
 
 // A line about one point, or about two that have the same open condition.
-#[derive(Clone, Copy)]
+#[derive(Clone, Copy, PartialEq, Eq, Debug)]
 pub enum Line {
     True(Point),
     False(Point),

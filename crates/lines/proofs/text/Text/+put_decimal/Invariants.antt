@@ -1,5 +1,0 @@
--- A tenth of a number is less.
-use Rattle.lines.proofs.text.Text.+put_decimal.Given as goal
-
-abbrev pub decreases-put_decimal : goal.decreases-put_decimal
-decreases-put_decimal l = l.n
