@@ -1,6 +1,6 @@
 -- A list written to the front of another.
-use Rattle.std.proofs.Common.{◌≡◌, ℕ, zero, suc, ◌+◌, ◌<◌, ◌≤◌, List, [], ◌∷◌, ◌++◌, length, get_or, take, drop, set, sym, refl, ap, ◌∙◌, arith}
-use Rattle.std.proofs.lemmas.List.{length-append, length-drop, length-take-le, length_push, drop_more, set_at, take_at, append_assoc, get_or_append_left, take_more, append-nil, take-append-drop}
+use Rattle.std.proofs.Common.{◌≡◌, ℕ, zero, suc, ◌+◌, ◌<◌, ◌≤◌, List, [], ◌∷◌, ◌++◌, length, get_or, take, drop, set, sym, refl, ap, ◌∙◌, ap₂, arith}
+use Rattle.std.proofs.lemmas.List.{length-append, length-drop, length-take-le, length_push, drop_more, set_at, take_at, append_assoc, get_or_append_left, take_more, append-nil, drop-drop, drop_all, take-append-drop}
 use Rattle.feed.specs.Lists.{onto}
 
 module _ {T : Type 0} where
@@ -45,3 +45,13 @@ module _ {T : Type 0} where
 
   pub onto_part : (S : List T) (n : ℕ) → n ≤ length S → S ≡ onto (take n S ++ []) S
   onto_part S n h = rw (append-nil (take n S), length-take-le n S h) (sym (take-append-drop n S))
+
+  -- all of a list is written over
+  pub onto_all : (A S : List T) → length A ≡ length S → onto A S ≡ A
+  onto_all A S e = ap (λ R. A ++ R) (drop_all (length A) S (omega arith)) ∙ append-nil A
+
+  -- two parts in front of what is left are written over the whole
+  pub onto_split : (A B S : List T) (n m : ℕ) → length A ≡ n → length B ≡ m → A ++ (B ++ drop m (drop n S)) ≡ onto (A ++ B) S
+  onto_split A B S n m e h =
+      sym (append_assoc A B (drop m (drop n S)))
+      ∙ ap (λ R. (A ++ B) ++ R) (drop-drop m n S ∙ ap (λ i. drop i S) (ap₂ (λ x y. x + y) (sym e) (sym h) ∙ sym (length-append A B)))

@@ -49,20 +49,17 @@ impl InstantWatch {
         if shelf < 2 * self.components() {
             return Err(StepRefusal::Shelf);
         }
-        match self.newest {
-            Some(before) if stamp < before => Err(StepRefusal::Stamp),
-            _ => Ok(()),
+        if self.newest.is_some_and(|before| stamp < before) {
+            return Err(StepRefusal::Stamp);
         }
+        Ok(())
     }
 
     // The gap from the newest point, if there is one.
     fn gap_to(&self, stamp: u32) -> Option<u32>
         ensures { result ≡ gap_from self.now.newest stamp }
     {
-        match self.newest {
-            Some(before) => Some(stamp.saturating_sub(before)),
-            None => None,
-        }
+        self.newest.map(|before| stamp.saturating_sub(before))
     }
 
     // Takes a point: the newest values go to the front of the shelf, those of the point before behind them, and the rule's

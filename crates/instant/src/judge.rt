@@ -12,16 +12,13 @@ ghost use Rattle.instant.specs.Step.{ruled, shelf_after, values};
 use crate::refusal::StepRefusal;
 use crate::watch::InstantWatch;
 use feed::{LETTERS, Sample};
+use std::array;
 
 // The letters of a sample.
 fn letters_of(sample: Sample) -> [bool; LETTERS as usize]
     ensures { result ≡ word_letters sample.letters }
 {
-    let mut letters = [false; LETTERS as usize];
-    for k in 0..LETTERS {
-        letters[k as usize] = sample.letter(k);
-    }
-    letters
+    array::from_fn(|k| sample.letter(k as u8))
 }
 
 impl InstantWatch {

@@ -12,7 +12,7 @@ mod watch;
 
 pub use refusal::StepRefusal;
 pub use theorems::runs_are_witnessed;
-pub use value::evaluate;
+pub use value::{evaluate, value_or_never};
 pub use watch::InstantWatch;
 
 #[cfg(test)]

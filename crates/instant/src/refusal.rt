@@ -5,9 +5,9 @@ ghost use Rattle.instant.specs.Answers.{step_number};
 // The first question that was answered no.
 #[derive(Clone, Copy, PartialEq, Eq, Debug)]
 pub enum StepRefusal {
-    Letters,
-    Shelf,
-    Stamp,
+    Letters = 41,
+    Shelf = 42,
+    Stamp = 25,
 }
 
 impl StepRefusal {
@@ -15,10 +15,6 @@ impl StepRefusal {
     pub fn number(self) -> u8
         ensures { result ≡ step_number self }
     {
-        match self {
-            StepRefusal::Letters => 41,
-            StepRefusal::Shelf => 42,
-            StepRefusal::Stamp => 25,
-        }
+        self as u8
     }
 }

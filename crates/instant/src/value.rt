@@ -1,11 +1,21 @@
 // The value of a record, one text for every kind of truth.
 ghost use Rattle.std.specs.Prelude.{◌≡◌};
-ghost use Rattle.instant.specs.Step.{lettered};
+ghost use Rattle.instant.specs.Step.{before, lettered};
 ghost use Rattle.logic.specs.Steps.{evaluated};
 ghost use Rattle.logic.specs.Values.{stepped};
 
 use rule::{Interval, Record};
 use truth::Truth;
+
+// The value at a place among some, if there is such a place; never else.
+pub fn value_or_never<T: Truth + Copy>(values: &[T], place: Option<usize>) -> T
+    ensures { result ≡ before T.Truth.ops values.now place }
+{
+    match place.and_then(|at| values.get(at)) {
+        Some(value) => *value,
+        None => T::never(),
+    }
+}
 
 // A since or an until at a shift: right, if the interval has begun, or left and what lies across the gap.
 fn step_of<T: Truth + Copy>(interval: Interval, shift: u8, left: T, right: T, across: T) -> T
@@ -34,14 +44,7 @@ pub fn evaluate<T: Truth + Copy>(
 {
     match of {
         Record::True => T::always(),
-        Record::Letter(l) => {
-            let l = l as usize;
-            if l < letters.len() {
-                letters[l]
-            } else {
-                T::never()
-            }
-        }
+        Record::Letter(l) => value_or_never(letters, Some(usize::from(l))),
         Record::Not(_) => left.not(),
         Record::And(_, _) => left.both(right),
         Record::Or(_, _) => left.either(right),

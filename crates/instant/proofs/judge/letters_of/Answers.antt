@@ -1,17 +1,12 @@
--- What is left to prove of `letters_of`.
-use Rattle.std.proofs.Common.{◌<◌, false, ◌≢◌, length, arith, get_or-set_other, get_or-set_same, below_more}
-use Rattle.std.proofs.lemmas.List.{length-set}
+-- The letters that were made are those of the word.
+use Rattle.std.proofs.Common.{◌≡◌, false, rules}
 use Rattle.std.proofs.lemmas.List.FromFn.{fill_by_all}
+use Rattle.truth.proofs.Made.{made_at}
 use Rattle.feed.specs.Entries.{letter_of, letter_count}
 use Rattle.instant.proofs.judge.letters_of.Goals as goal
 
-pub loop-k-preserved : goal.loop-k-preserved
-loop-k-preserved c = (
-  simp length-set c.loop-k.invariant.0,
-  below_more _ _
-      (λ n h. let ne : n ≢ c.loop-k.k = omega arith in rw get_or-set_other (c.loop-k.invariant.1 n h))
-      (let lt : c.loop-k.k < length c.loop-k.letters = omega arith in rw get_or-set_same c.letter.ensures),
-)
-
 pub returns : goal.returns
-returns c = fill_by_all (letter_of c.args.sample.letters) c.loop-k.letters letter_count false c.loop-k.invariant.0 (λ n h. c.loop-k.invariant.1 n (omega arith))
+returns c =
+    let w = c.args.sample.letters in
+    fill_by_all (letter_of w) c.from_fn.result letter_count false c.from_fn.ensures.items.long
+    (made_at _ (λ i y. y ≡ letter_of w i) false _ _ 12 c.from_fn.ensures.items (λ i y q m. (search rules, search rules)))

@@ -1,8 +1,6 @@
--- What the loop of `keep` keeps.
-use Rattle.std.proofs.Common.{◌≡◌, ◌++◌, take}
-use Rattle.instant.specs.Step.{kept}
-use Rattle.feed.specs.Lists.{onto}
+-- The places passed so far hold never.
+use Rattle.std.proofs.Common.{◌≡◌, ℕ, ◌<◌, get_or}
 use Rattle.instant.proofs.shelf.keep.Given as goal
 
-abbrev pub invariant-loop-i : goal.invariant-loop-i
-invariant-loop-i g l = let S = l.initial.shelf in l.shelf ≡ onto (take l.n S ++ take l.i (kept g.T.Truth.ops l.first l.n S)) S
+abbrev pub invariant-loop-value : goal.invariant-loop-value
+invariant-loop-value g l = let never = g.T.Truth.ops.never in (k : ℕ) → k < l.value-index → get_or l.before k never ≡ never
