@@ -1,24 +1,27 @@
 -- Filling in conditions: letters that are given agree with the sample's, and one row more.
-use Rattle.std.proofs.Common.{◌≡◌, ℕ, suc, ◌+◌, ◌<◌, ◌≤◌, true, leb, List, [], ◌∷◌, ◌++◌, map, length, get_or, take, set, None, Option, sym, refl, ap, ◌∙◌, ap₂, add-zero, arith}
+use Rattle.std.proofs.Common.{◌≡◌, ℕ, suc, ◌+◌, ◌<◌, ◌≤◌, true, leb, List, [], ◌∷◌, ◌++◌, map, length, get_or, take, drop, Some, None, Option, sym, refl, ap, ◌∙◌, ap₂, arith}
 use Rattle.std.specs.List.{range_with_len}
 use Rattle.std.proofs.lemmas.List.FromFn.{get_or-map-range_with_len, length-map-range_with_len, map-range_with_len_more}
-use Rattle.std.proofs.lemmas.List.{append_assoc, length-append, length-take-le}
+use Rattle.std.proofs.lemmas.List.{get_or_past, length-append, length-take-le}
 use Rattle.std.proofs.lemmas.Bool.{leb-true}
 use Rattle.truth.specs.declared.table.Condition.{Condition}
 use Rattle.truth.specs.Tables.{openly}
+use Rattle.truth.specs.Replacing.{replaced}
+use Rattle.truth.proofs.Tabled.{replaced_never}
 use Rattle.feed.specs.Entries.{letter_count}
 use Rattle.feed.specs.Lists.{onto}
-use Rattle.feed.proofs.Onto.{onto_more, onto_part, take_onto, onto_onto}
+use Rattle.feed.proofs.Onto.{onto_onto, onto_split, take_onto}
 use Rattle.rule.specs.declared.record.Record.{Record}
 use Rattle.rule.specs.declared.record.Record.TheVariants.{True, Letter, Not, And, Or, Previous, Since, Next, Until}
 use Rattle.rule.specs.Limits.{last_letter}
 use Rattle.rule.specs.Records.{allowed}
 use Rattle.instant.specs.Step as instant
 use Rattle.logic.specs.Steps.{evaluated}
+use Rattle.logic.specs.Values.{at_shift_or}
 use Rattle.rule.specs.Components.{components, first_component, first_wait, left_of, shifts, waits}
 use Rattle.rule.proofs.Numbering.{first_all}
 use Rattle.logic.proofs.Places.{waits_all}
-use Rattle.logic.specs.Draws.{lettered, Filled, filled, row_values, row_waits}
+use Rattle.logic.specs.Draws.{among, brought, lettered, Filled, filled, row_values, row_waits}
 use Rattle.logic.proofs.Filling.{values_long, becomes_long}
 
 -- the letters that are spelled out are the sample's, as far as a sound record reads them
@@ -36,47 +39,21 @@ spelled_evaluated w ls e j (Since i a b) h s left right from = refl
 spelled_evaluated w ls e j (Next i a) h s left right from = refl
 spelled_evaluated w ls e j (Until i a b) h s left right from = refl
 
--- a record without arguments has one shift, and looks at nothing but the letters
-pub leaf_shifts : (r : Record) → None ≡ left_of r → shifts r ≡ 1
-leaf_shifts True h = refl
-leaf_shifts (Letter l) h = refl
-leaf_shifts (Not a) h = absurd (let z : ◌≡◌ {A = ℕ} 0 1 = cc in omega arith)
-leaf_shifts (And a b) h = absurd (let z : ◌≡◌ {A = ℕ} 0 1 = cc in omega arith)
-leaf_shifts (Or a b) h = absurd (let z : ◌≡◌ {A = ℕ} 0 1 = cc in omega arith)
-leaf_shifts (Previous i a) h = absurd (let z : ◌≡◌ {A = ℕ} 0 1 = cc in omega arith)
-leaf_shifts (Since i a b) h = absurd (let z : ◌≡◌ {A = ℕ} 0 1 = cc in omega arith)
-leaf_shifts (Next i a) h = absurd (let z : ◌≡◌ {A = ℕ} 0 1 = cc in omega arith)
-leaf_shifts (Until i a b) h = absurd (let z : ◌≡◌ {A = ℕ} 0 1 = cc in omega arith)
+-- a component's condition, if there is one
+pub before_at : (vs : List Condition) (o : Option ℕ) → instant.before openly vs o ≡ at_shift_or (among vs) openly.never o
+before_at vs None = refl
+before_at vs (Some c) = refl
 
-pub leaf_same : (r : Record) → None ≡ left_of r → (ls : ℕ → Condition) (s : ℕ) (a b c x y z : Condition) → evaluated openly r s ls a b c ≡ evaluated openly r s ls x y z
-leaf_same True h ls s a b c x y z = refl
-leaf_same (Letter l) h ls s a b c x y z = refl
-leaf_same (Not d) h ls s a b c x y z = absurd (let z : ◌≡◌ {A = ℕ} 0 1 = cc in omega arith)
-leaf_same (And d e) h ls s a b c x y z = absurd (let z : ◌≡◌ {A = ℕ} 0 1 = cc in omega arith)
-leaf_same (Or d e) h ls s a b c x y z = absurd (let z : ◌≡◌ {A = ℕ} 0 1 = cc in omega arith)
-leaf_same (Previous i d) h ls s a b c x y z = absurd (let z : ◌≡◌ {A = ℕ} 0 1 = cc in omega arith)
-leaf_same (Since i d e) h ls s a b c x y z = absurd (let z : ◌≡◌ {A = ℕ} 0 1 = cc in omega arith)
-leaf_same (Next i d) h ls s a b c x y z = absurd (let z : ◌≡◌ {A = ℕ} 0 1 = cc in omega arith)
-leaf_same (Until i d e) h ls s a b c x y z = absurd (let z : ◌≡◌ {A = ℕ} 0 1 = cc in omega arith)
+-- a row behind the first n of S
+pub row_split : {T : Type 0} (S front back R row : List T) (n m w : ℕ) → n ≤ length S → m ≡ n → front ≡ take m S → back ≡ drop m S → R ≡ row → length row ≡ w
+    → front ++ (R ++ drop w back) ≡ onto (take n S ++ row) S
+row_split S front back R row n m w room at f b e long =
+    ap₂ (λ X Y. X ++ Y) (f ∙ ap (λ i. take i S) at) (ap₂ (λ X Y. X ++ drop w Y) e (b ∙ ap (λ i. drop i S) at))
+    ∙ onto_split (take n S) row S n w (length-take-le n S room) long
 
--- one element more of a row that f gives, behind the first n of S
-module _ {T : Type 0} (S : List T) (n : ℕ) (f : ℕ → T) where
-  abbrev pub partly : ℕ → List T
-  partly s = onto (take n S ++ map f (range_with_len 0 s)) S
-
-  length_front : (s : ℕ) → n ≤ length S → length (take n S ++ map f (range_with_len 0 s)) ≡ n + s
-  length_front s h = length-append (take n S) (map f (range_with_len 0 s)) ∙ ap₂ (λ x y. x + y) (length-take-le n S h) (length-map-range_with_len f 0 s)
-
-  pub partly_more : (s : ℕ) → n + s < length S → set (partly s) (n + s) (f s) ≡ partly (s + 1)
-  partly_more s h =
-      onto_more (take n S ++ map f (range_with_len 0 s)) S (n + s) (f s) (length_front s (omega arith)) h
-      ∙ ap (λ R. onto R S) (append_assoc (take n S) (map f (range_with_len 0 s)) (f s ∷ []) ∙ ap (λ R. take n S ++ R) (sym (map-range_with_len_more f 0 s s (omega arith))))
-
--- a row of one element
-pub row_of_one : {T : Type 0} (S : List T) (n m : ℕ) (f : ℕ → T) → n < length S → m ≡ 1 → set S n (f 0) ≡ onto (take n S ++ map f (range_with_len 0 m)) S
-row_of_one S n m f h e =
-    ap (λ k. set S k (f 0)) (sym (add-zero n)) ∙ ap (λ X. set X (n + 0) (f 0)) (onto_part S n (omega arith))
-    ∙ partly_more S n f 0 (omega arith) ∙ ap (partly S n f) (sym e)
+-- where nothing lies across the gap, never is carried to never
+pub brought_past : (ws before : List Condition) (c : ℕ) → length before ≤ c → openly.never ≡ brought ws before (Some c)
+brought_past ws before c h = replaced_never ws ∙ ap (replaced ws) (sym (get_or_past before c openly.never h))
 
 -- a row behind what is written already
 pub row_behind : {T : Type 0} (A B S : List T) (n : ℕ) → length A ≡ n → onto (take n (onto A S) ++ B) (onto A S) ≡ onto (A ++ B) S

@@ -1,34 +1,19 @@
 // The letters of a sample as conditions.
-ghost use Rattle.std.specs.Prelude.{◌≡◌, map, if◌then◌else◌};
-ghost use Rattle.truth.specs.Tables.{openly};
+ghost use Rattle.std.specs.Prelude.{◌≡◌, map};
 ghost use Rattle.std.specs.List.{range_with_len};
 ghost use Rattle.feed.specs.Entries.{letter_count};
 ghost use Rattle.logic.specs.Draws.{lettered};
 
 use crate::arrival::Arrival;
 use feed::{LETTERS, Sample};
-use truth::{Condition, Truth};
-
-// Always or never.
-fn constant(truth: bool) -> Condition
-    ensures { result ≡ (if truth then openly.always else openly.never) }
-{
-    if truth {
-        Condition::always()
-    } else {
-        Condition::never()
-    }
-}
+use std::array;
+use truth::Condition;
 
 // The letters of a sample, each always or never.
 fn letters_of(sample: Sample) -> [Condition; LETTERS as usize]
     ensures { result ≡ map (lettered sample.letters) (range_with_len 0 letter_count) }
 {
-    let mut letters = [Condition::never(); LETTERS as usize];
-    for k in 0..LETTERS {
-        letters[k as usize] = constant(sample.letter(k));
-    }
-    letters
+    array::from_fn(|k| Condition::from(sample.letter(k as u8)))
 }
 
 // Spells the letters of a sample where those of an older one stand.
@@ -36,10 +21,10 @@ fn spell(letters: &mut [Condition], old: Sample, new: Sample)
     requires { letters.old ≡ map (lettered old.letters) (range_with_len 0 letter_count) }
     ensures { letters.new ≡ map (lettered new.letters) (range_with_len 0 letter_count) }
 {
-    for k in 0..LETTERS {
-        let truth = new.letter(k);
-        if old.letter(k) != truth {
-            letters[k as usize] = constant(truth);
+    for (k, letter) in letters.iter_mut().enumerate() {
+        let truth = new.letter(k as u8);
+        if old.letter(k as u8) != truth {
+            *letter = Condition::from(truth);
         }
     }
 }
@@ -57,6 +42,7 @@ impl Arrival {
             gap,
         }
     }
+
     // The next sample that arrives, with its gap.
     pub(crate) fn renew(&mut self, sample: Sample, gap: Option<u32>)
         ensures sample { self.new.sample ≡ sample }

@@ -33,15 +33,15 @@ loop-j-preserved c =
     let j = c.loop-j.j in
     let lt : j < length rs = omega (arith, c.len-j-end.ensures.value) in
     let next : suc j ≡ j + 1 = omega arith in
-    let known : c.first_wait-known.result - 0 ≡ first_wait rs j = omega (arith, c.first_wait-known.ensures.value) in
-    let full : c.first_component-filled.result - 0 ≡ first_component rs (suc j) = omega (arith, c.first_component-filled.ensures.value ∙ ap (first_component rs) (sym next)) in
+    let known = c.first_wait-known.ensures.value in
+    let full : c.first_component-filled.result ≡ first_component rs (suc j) = omega (arith, c.first_component-filled.ensures.value ∙ ap (first_component rs) (sym next)) in
     let R = c.loop-j.values in
     let Q = c.loop-j.becomes in
     let r = c.loop-j.invariant.2 in
     let q = c.loop-j.invariant.3 in
     let R' = c.fill_row.new.values in
-    let x = values_more rs w gap before S W j lt R Q r q R' (c.first_wait-known.result - 0) known c.fill_row.ensures in
-    let y = becomes_more rs w gap before S W j lt R Q r q R' c.renew_row.new.becomes (c.first_component-filled.result - 0) full x c.renew_row.ensures in (
+    let x = values_more rs w gap before S W j lt R Q r q R' c.first_wait-known.result known c.fill_row.ensures in
+    let y = becomes_more rs w gap before S W j lt R Q r q R' c.renew_row.new.becomes c.first_component-filled.result full x c.renew_row.ensures in (
       omega (arith, c.fill_row.auto.values, c.loop-j.invariant.0),
       omega (arith, c.renew_row.auto.becomes, c.loop-j.invariant.1),
       x ∙ ap (λ n. onto (filled rs w gap before n).values S) next,

@@ -1,5 +1,6 @@
 -- One letter more, which is written where it differs.
 use Rattle.std.proofs.Common.{◌≡◌, ◌+◌, cond, List, sym, ap, ◌∙◌, subst, arith}
+use Rattle.std.proofs.lemmas.List.{set-get_or}
 use Rattle.truth.specs.declared.table.Condition.{Condition}
 use Rattle.truth.specs.Tables.{openly}
 use Rattle.watch.proofs.Spelling.{Spelled, spelled_none, spelled_all, spelled_more, spelled_same, same_tests}
@@ -16,10 +17,10 @@ loop-k-preserved c =
     let k = c.loop-k.k in
     let P : List Condition → Type 0 = λ L. Spelled old new (k + 1) L in
     elim c.if-letter-truth.branch [
-      | then-letter-truth w ↦ subst P (sym w.letters-is) (spelled_more old new k c.loop-k.letters c.loop-k.invariant (omega arith) w.constant.result
-          (w.constant.ensures ∙ ap (λ b. cond b openly.always openly.never) c.letter-truth.ensures))
-      | else-letter-truth w ↦ subst P (sym w.letters-is) (spelled_same old new k c.loop-k.letters c.loop-k.invariant (omega arith)
-          (sym c.letter.ensures ∙ same_tests c.letter.result c.letter-truth.result w.if-letter-truth.false ∙ c.letter-truth.ensures))
+      | then-letter-truth w ↦ subst P (sym w.letters-is) (spelled_more old new k c.loop-k.letters c.loop-k.invariant (omega arith) w.from.result
+          (w.from.ensures ∙ ap (λ b. cond b openly.always openly.never) c.letter-truth.ensures))
+      | else-letter-truth w ↦ subst P (sym w.letters-is) (subst P (sym (set-get_or c.loop-k.letters k _)) (spelled_same old new k c.loop-k.letters c.loop-k.invariant (omega arith)
+          (sym c.letter.ensures ∙ same_tests c.letter.result c.letter-truth.result w.if-letter-truth.false ∙ c.letter-truth.ensures)))
     ]
 
 pub returns : goal.returns
