@@ -29,8 +29,8 @@ impl Tally {
         requires { size self.old + length lines.now < 2 ^ 64 }
         ensures { self.new ≡ tallied self.old lines.now }
     {
-        for i in 0..lines.len() {
-            self.add(lines[i]);
+        for line in lines {
+            self.add(*line);
         }
     }
 }

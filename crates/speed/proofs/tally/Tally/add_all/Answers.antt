@@ -9,24 +9,24 @@ use Rattle.speed.proofs.tally.Tally.add_all.Goals as goal
 
 pub add-requires : goal.add-requires
 add-requires c =
-    let i = c.loop-i.i in
+    let i = c.loop-line.line-index in
     let ls = c.args.lines.now in
     let within : i < length ls = omega arith in
     let room = c.requires in
     let long = length-take-le i ls (omega arith) in
-    let so_far = ap size c.loop-i.invariant ∙ size_tallied c.args.self.now (take i ls) in
+    let so_far = ap size c.loop-line.invariant ∙ size_tallied c.args.self.now (take i ls) in
     omega arith
 
-pub loop-i-preserved : goal.loop-i-preserved
-loop-i-preserved c =
-    let i = c.loop-i.i in
+pub loop-line-preserved : goal.loop-line-preserved
+loop-line-preserved c =
+    let i = c.loop-line.line-index in
     let ls = c.args.lines.now in
     let d : Line = True (record { stamp = 0; offset = 0 }) in
     let more = tallied_more c.args.self.now ls i d (omega arith) in
-    c.add.ensures ∙ ap (λ t. counted t (get_or ls i d)) c.loop-i.invariant ∙ sym more
+    c.add.ensures ∙ ap (λ t. counted t (get_or ls i d)) c.loop-line.invariant ∙ sym more
 
 pub returns : goal.returns
 returns c =
-    let i = c.loop-i.i in
+    let i = c.loop-line.line-index in
     let ls = c.args.lines.now in
-    c.loop-i.invariant ∙ ap (tallied c.args.self.now) (take_all i ls (omega arith))
+    c.loop-line.invariant ∙ ap (tallied c.args.self.now) (take_all i ls (omega arith))

@@ -3,5 +3,5 @@ use Rattle.std.proofs.Common.{◌≡◌, take}
 use Rattle.speed.specs.Tallies.{tallied}
 use Rattle.speed.proofs.tally.Tally.add_all.Given as goal
 
-abbrev pub invariant-loop-i : goal.invariant-loop-i
-invariant-loop-i l = l.self ≡ tallied l.initial.self (take l.i l.lines)
+abbrev pub invariant-loop-line : goal.invariant-loop-line
+invariant-loop-line l = l.self ≡ tallied l.initial.self (take l.line-index l.lines)
