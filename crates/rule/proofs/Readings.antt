@@ -1,6 +1,6 @@
 -- One record more of a table that is read.
-use Rattle.std.proofs.Common.{◌≡◌, ℕ, zero, suc, ◌+◌, ◌<◌, ◌≤◌, Bool, true, false, cond, List, [], ◌∷◌, ◌++◌, length, get_or, drop, Ok, Err, Result, sym, refl, ap, ◌∙◌, subst, inl, inr, arith}
-use Rattle.std.proofs.lemmas.List.{append_assoc, append-nil, length_push, get_or_append_left, get_or-append-add}
+use Rattle.std.proofs.Common.{◌≡◌, ℕ, zero, suc, ◌+◌, ◌<◌, ◌≤◌, Bool, true, false, cond, List, [], ◌∷◌, ◌++◌, length, get_or, take, drop, set, Ok, Err, Result, sym, refl, ap, ◌∙◌, subst, inl, inr, arith}
+use Rattle.std.proofs.lemmas.List.{append_assoc, append-nil, length_push, get_or_append_left, get_or-append-add, length-take-le, take_more_set}
 use Rattle.std.proofs.lemmas.Bool.{cases_lt}
 use Rattle.std.proofs.lemmas.Bool.Decides.{nat_tests}
 use Rattle.rule.specs.declared.record.Record.{Record}
@@ -11,7 +11,7 @@ use Rattle.rule.specs.Components.{waits, components, any_ahead}
 use Rattle.rule.specs.Reading.{Read, read_from, read_table, length_allowed, unless, preceded, asked, watch_questions, instant_questions, TablesSound}
 
 -- a record that passes its questions can stand in a rule
-pub checked_allowed : (j kind left right low high : ℕ) → Ok tt ≡ checked j kind left right low high → allowed j (record_of kind left right low high) ≡ true
+checked_allowed : (j kind left right low high : ℕ) → Ok tt ≡ checked j kind left right low high → allowed j (record_of kind left right low high) ≡ true
 checked_allowed j zero left right low high e = grind (arith, nat_tests)
 checked_allowed j (suc zero) left right low high e = grind (arith, nat_tests)
 checked_allowed j (suc (suc zero)) left right low high e = grind (arith, nat_tests)
@@ -23,9 +23,14 @@ checked_allowed j (suc (suc (suc (suc (suc (suc (suc zero))))))) left right low 
 checked_allowed j (suc (suc (suc (suc (suc (suc (suc (suc zero)))))))) left right low high e = grind (arith, nat_tests)
 checked_allowed j (suc (suc (suc (suc (suc (suc (suc (suc (suc k))))))))) left right low high e = grind (arith, nat_tests)
 
-pub read_more : (j : ℕ) (xs : List ℕ) → 5 ≤ length xs →
-    read_from j xs ≡ unless (checked j (get_or xs 0 0) (get_or xs 1 0) (get_or xs 2 0) (get_or xs 3 0) (get_or xs 4 0))
-    (preceded (record_of (get_or xs 0 0) (get_or xs 1 0) (get_or xs 2 0) (get_or xs 3 0) (get_or xs 4 0) ∷ []) (read_from (j + 1) (drop 5 xs)))
+-- what the first five of some bytes say, and what is asked of them as record j
+abbrev record_at : List ℕ → Record
+record_at xs = record_of (get_or xs 0 0) (get_or xs 1 0) (get_or xs 2 0) (get_or xs 3 0) (get_or xs 4 0)
+
+abbrev checked_at : ℕ → List ℕ → Result (Unit {0}) RuleRefusal
+checked_at j xs = checked j (get_or xs 0 0) (get_or xs 1 0) (get_or xs 2 0) (get_or xs 3 0) (get_or xs 4 0)
+
+read_more : (j : ℕ) (xs : List ℕ) → 5 ≤ length xs → read_from j xs ≡ unless (checked_at j xs) (preceded (record_at xs ∷ []) (read_from (j + 1) (drop 5 xs)))
 read_more j [] h = absurd (omega arith)
 read_more j (a ∷ []) h = absurd (omega arith)
 read_more j (a ∷ b ∷ []) h = absurd (omega arith)
@@ -38,17 +43,18 @@ preceded_twice rs qs (Ok ps) = ap Ok (sym (append_assoc rs qs ps))
 preceded_twice rs qs (Err e) = refl
 
 -- a record that passed goes behind those before it
-pub goes_on : (rs : List Record) (j : ℕ) (xs : List ℕ) → 5 ≤ length xs →
-    Ok tt ≡ checked j (get_or xs 0 0) (get_or xs 1 0) (get_or xs 2 0) (get_or xs 3 0) (get_or xs 4 0) →
-    preceded rs (read_from j xs) ≡ preceded (rs ++ record_of (get_or xs 0 0) (get_or xs 1 0) (get_or xs 2 0) (get_or xs 3 0) (get_or xs 4 0) ∷ []) (read_from (j + 1) (drop 5 xs))
-goes_on rs j xs h e =
-    let r = record_of (get_or xs 0 0) (get_or xs 1 0) (get_or xs 2 0) (get_or xs 3 0) (get_or xs 4 0) in
-    let after = preceded (r ∷ []) (read_from (j + 1) (drop 5 xs)) in
-    ap (preceded rs) (read_more j xs h ∙ ap (λ (x : Result (Unit {0}) RuleRefusal). unless x after) (sym e))
-    ∙ preceded_twice rs (r ∷ []) (read_from (j + 1) (drop 5 xs))
+pub goes_on : (t : List Record) (n : ℕ) (xs : List ℕ) → n < length t → 5 ≤ length xs → Ok tt ≡ checked_at n xs →
+    preceded (take n t) (read_from n xs) ≡ preceded (take (n + 1) (set t n (record_at xs))) (read_from (n + 1) (drop 5 xs))
+goes_on t n xs few h e =
+    let rs = take n t in
+    let r = record_at xs in
+    let after = read_from (n + 1) (drop 5 xs) in
+    ap (preceded rs) (read_more n xs h ∙ ap (λ (x : Result (Unit {0}) RuleRefusal). unless x (preceded (r ∷ []) after)) (sym e))
+    ∙ preceded_twice rs (r ∷ []) after
+    ∙ ap (λ qs. preceded qs after) (sym (take_more_set t n r few))
 
 -- a table of sound records with one more
-pub sound_push : (rs : List Record) (r : Record) → Sound rs → allowed (length rs) r ≡ true → Sound (rs ++ r ∷ [])
+sound_push : (rs : List Record) (r : Record) → Sound rs → allowed (length rs) r ≡ true → Sound (rs ++ r ∷ [])
 sound_push rs r s a j h =
     elim (cases_lt j (length rs)) [
       | inl lt ↦ ap (allowed j) (get_or_append_left rs (r ∷ []) True j lt) ∙ s j lt
@@ -59,6 +65,13 @@ sound_push rs r s a j h =
           ∙ ap (allowed (length rs + 0)) (get_or-append-add rs (r ∷ []) 0 True)
           ∙ ap (λ x. allowed x r) z ∙ a
     ]
+
+pub sound_more : (t : List Record) (n : ℕ) (xs : List ℕ) → n < length t → Ok tt ≡ checked_at n xs → Sound (take n t) → Sound (take (n + 1) (set t n (record_at xs)))
+sound_more t n xs few e s =
+    let r = record_at xs in
+    let size : length (take n t) ≡ n = length-take-le n t (omega arith) in
+    let fine = checked_allowed n (get_or xs 0 0) (get_or xs 1 0) (get_or xs 2 0) (get_or xs 3 0) (get_or xs 4 0) e in
+    subst Sound (sym (take_more_set t n r few)) (sound_push (take n t) r s (subst (λ k. allowed k r ≡ true) (sym size) fine))
 
 -- records that pass the further questions are what was asked about
 pub asked_passed : (questions : List Record → Result (Unit {0}) RuleRefusal) (rs : List Record) (x : Read) → Ok rs ≡ x → Ok tt ≡ questions rs → Ok rs ≡ asked questions x

@@ -1,11 +1,8 @@
 -- Components and waits of a table, and their numbers.
-use Rattle.std.specs.Prelude.{◌≡◌, ℕ, ◌+◌, ◌<◌, Bool, true, false, cond, ◌||◌, List, [], ◌∷◌, length, take, Some, None, sum_by, Option, slice_index}
+use Rattle.std.specs.Prelude.{◌≡◌, ℕ, ◌+◌, Bool, true, false, cond, ◌||◌, List, [], ◌∷◌, take, Some, None, sum_by, Option, slice_index_or}
 use Rattle.std.specs.Option.{option_map}
 use Rattle.rule.specs.declared.record.Record.{Record}
 use Rattle.rule.specs.declared.record.Record.TheVariants.{True, Letter, Not, And, Or, Previous, Since, Next, Until}
-use Rattle.rule.specs.declared.record.Counted.{Counted}
-use Rattle.rule.specs.declared.record.Counted.TheVariants.{Components, Waits}
-use Rattle.rule.specs.declared.numbers.Numbers.{Numbers}
 use Rattle.rule.specs.Intervals.{within, last_shift, moved}
 
 -- the arguments of a record, if it has them
@@ -88,16 +85,9 @@ abbrev pub any_ahead : List Record → Bool
 any_ahead [] = false
 any_ahead (r ∷ rs) = looks_ahead r || any_ahead rs
 
--- how many components or waits a record has
-abbrev pub counted : Counted → Record → ℕ
-counted Components r = shifts r
-counted Waits r = own_waits r
-
--- the numbers of the first component or wait of each record, and how many there are
-abbrev pub Numbered : (Record → ℕ) → List Record → Numbers → Type 0
-Numbered w rs n =
-    (length n.first ≡ 32) × (n.total ≡ sum_by w rs)
-    × ((j : ℕ) → j < length rs → slice_index n.first j ≡ sum_by w (take j rs))
+-- the numbers of the first component or wait of each record, and how many there are, which is the number past the last record
+abbrev pub Numbered : (Record → ℕ) → List Record → List ℕ → ℕ → Type 0
+Numbered w rs first total = (total ≡ sum_by w rs) × ((j : ℕ) → slice_index_or first j total ≡ sum_by w (take j rs))
 
 -- the component of the point before that record r at shift s rests on, where r's own first component has the number n and
 -- the gap is g: none at a first point, where the gap does not fit, and at an expired shift

@@ -5,21 +5,21 @@ ghost use Rattle.rule.specs.Reading.{records};
 
 use crate::limits::MOST_RECORDS;
 use crate::record::Record;
-use crate::table::{Rule, rule_of};
+use crate::table::Rule;
 
 impl Rule {
     // The rule true, which a watch has before its first fitting.
     pub fn always() -> Rule
         ensures { records result ≡ Record.True ∷ [] }
     {
-        rule_of([Record::True; MOST_RECORDS], 1)
+        Rule::of([Record::True; MOST_RECORDS], 1)
     }
 
     // The records, the first one first.
     pub fn records(&self) -> &[Record]
         ensures { result.now ≡ records self.now }
     {
-        &self.table[0..self.len]
+        &self.table[..self.len]
     }
 
     // How many records there are.
@@ -35,11 +35,7 @@ impl Rule {
     pub fn record(&self, j: usize) -> Record
         ensures { result ≡ slice_index_or (records self.now) j Record.True }
     {
-        if j < self.len {
-            self.table[j]
-        } else {
-            Record::True
-        }
+        self.records().get(j).copied().unwrap_or(Record::True)
     }
 
     // How many components there are.
@@ -47,7 +43,7 @@ impl Rule {
         ensures value { result ≡ components (records self.now) }
         ensures bound { result < 2 ^ 16 }
     {
-        self.components.total as usize
+        self.components.total()
     }
 
     // The number of the first component of record j, or how many components there are where there are fewer records.
@@ -55,11 +51,7 @@ impl Rule {
         ensures value { result ≡ first_component (records self.now) j }
         ensures bound { result < 2 ^ 16 }
     {
-        if j < self.len {
-            self.components.first[j] as usize
-        } else {
-            self.components()
-        }
+        self.components.first(j)
     }
 
     // How many waits there are.
@@ -67,7 +59,7 @@ impl Rule {
         ensures value { result ≡ waits (records self.now) }
         ensures bound { result < 2 ^ 16 }
     {
-        self.waits.total as usize
+        self.waits.total()
     }
 
     // The number of the first wait of record j, or how many waits there are where there are fewer records.
@@ -75,11 +67,7 @@ impl Rule {
         ensures value { result ≡ first_wait (records self.now) j }
         ensures bound { result < 2 ^ 16 }
     {
-        if j < self.len {
-            self.waits.first[j] as usize
-        } else {
-            self.waits()
-        }
+        self.waits.first(j)
     }
 
     // Whether there is a future operator.
@@ -97,11 +85,11 @@ impl Rule {
         let minutes = gap?;
         match self.record(j) {
             Record::Previous(interval, a) if interval.contains(minutes) => {
-                Some(self.first_component(a as usize))
+                Some(self.first_component(usize::from(a)))
             }
             Record::Since(interval, _, _) => {
                 let to = interval.moved(shift, minutes)?;
-                Some(self.first_component(j) + to as usize)
+                Some(self.first_component(j) + usize::from(to))
             }
             _ => None,
         }

@@ -3,17 +3,17 @@ ghost use Rattle.std.specs.Prelude.{◌≡◌, ◌≤◌, false, IfOk};
 ghost use Rattle.rule.specs.Components.{any_ahead, components, waits};
 ghost use Rattle.rule.specs.Reading.{TablesSound, asked, instant_questions, length_allowed, read_table, records, told, watch_questions};
 
-use crate::check::{check_record, record_of};
+use crate::check::Fields;
 use crate::limits::{MOST_COMPONENTS, MOST_RECORDS, MOST_SLOTS, MOST_WAITS, RECORD_BYTES};
 use crate::record::Record;
 use crate::refusal::RuleRefusal;
-use crate::table::{Rule, rule_of};
+use crate::table::Rule;
 
 // Whether a table can have this many bytes.
 fn length_allowed(size: usize) -> bool
     ensures { result ≡ length_allowed size }
 {
-    RECORD_BYTES <= size && size <= MOST_RECORDS * RECORD_BYTES && size % RECORD_BYTES == 0
+    (RECORD_BYTES..=MOST_RECORDS * RECORD_BYTES).contains(&size) && size % RECORD_BYTES == 0
 }
 
 impl Rule {
@@ -28,12 +28,19 @@ impl Rule {
         let mut len: u8 = 0;
         let mut rest = bytes;
         while let [kind, left, right, low, high, tail @ ..] = rest {
-            check_record(len, *kind, *left, *right, *low, *high)?;
-            table[len as usize] = record_of(*kind, *left, *right, *low, *high);
+            let fields = Fields {
+                kind: *kind,
+                left: *left,
+                right: *right,
+                low: *low,
+                high: *high,
+            };
+            fields.check(len)?;
+            table[usize::from(len)] = fields.record();
             len += 1;
             rest = tail;
         }
-        Ok(rule_of(table, len as usize))
+        Ok(Rule::of(table, usize::from(len)))
     }
 
     // What a watch with so many slots asks of the rule.
@@ -46,7 +53,7 @@ impl Rule {
         if self.components() > MOST_COMPONENTS {
             return Err(RuleRefusal::Components);
         }
-        if slots < 1 || slots > MOST_SLOTS {
+        if !(1..=MOST_SLOTS).contains(&slots) {
             return Err(RuleRefusal::Slots);
         }
         Ok(())

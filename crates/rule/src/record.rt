@@ -1,11 +1,11 @@
 // The records of a rule table.
 ghost use Rattle.std.specs.Prelude.{◌≡◌, ◌≤◌};
-ghost use Rattle.rule.specs.Components.{counted, left_of, looks_ahead, own_waits, right_of, shifts};
+ghost use Rattle.rule.specs.Components.{left_of, looks_ahead, own_waits, right_of, shifts};
 
 use crate::interval::Interval;
 
 // A record; its arguments are the numbers of earlier records, counted from 0.
-#[derive(Clone, Copy)]
+#[derive(Clone, Copy, PartialEq, Eq, Debug)]
 pub enum Record {
     True,
     Letter(u8),
@@ -16,13 +16,6 @@ pub enum Record {
     Since(Interval, u8, u8),
     Next(Interval, u8),
     Until(Interval, u8, u8),
-}
-
-// What is numbered through a table: its components or its waits.
-#[derive(Clone, Copy)]
-pub(crate) enum Counted {
-    Components,
-    Waits,
 }
 
 impl Record {
@@ -78,17 +71,6 @@ impl Record {
             Record::Next(_, _) => 1,
             Record::Until(_, _, _) => self.shifts(),
             _ => 0,
-        }
-    }
-
-    // How many components or waits the record has.
-    pub(crate) fn count(self, of: Counted) -> u16
-        ensures value { result ≡ counted of self }
-        ensures bound { result ≤ 256 }
-    {
-        match of {
-            Counted::Components => self.shifts(),
-            Counted::Waits => self.own_waits(),
         }
     }
 }

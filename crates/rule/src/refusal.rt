@@ -5,15 +5,15 @@ ghost use Rattle.rule.specs.Refusals.{refusal_number};
 // The first question that was answered no.
 #[derive(Clone, Copy, PartialEq, Eq, Debug)]
 pub enum RuleRefusal {
-    Length,
-    Kind,
-    Argument,
-    Field,
-    Interval,
-    Waits,
-    Components,
-    Slots,
-    LooksAhead,
+    Length = 1,
+    Kind = 2,
+    Argument = 3,
+    Field = 4,
+    Interval = 5,
+    Waits = 6,
+    Components = 7,
+    Slots = 8,
+    LooksAhead = 9,
 }
 
 impl RuleRefusal {
@@ -21,16 +21,6 @@ impl RuleRefusal {
     pub fn number(self) -> u8
         ensures { result ≡ refusal_number self }
     {
-        match self {
-            RuleRefusal::Length => 1,
-            RuleRefusal::Kind => 2,
-            RuleRefusal::Argument => 3,
-            RuleRefusal::Field => 4,
-            RuleRefusal::Interval => 5,
-            RuleRefusal::Waits => 6,
-            RuleRefusal::Components => 7,
-            RuleRefusal::Slots => 8,
-            RuleRefusal::LooksAhead => 9,
-        }
+        self as u8
     }
 }

@@ -2,35 +2,33 @@
 use crate::{Record, Rule, RuleRefusal};
 use std::test::Fail;
 
-// The number with which a table is refused for a watch, or 0.
-fn for_watch(bytes: &[u8], slots: usize) -> u8 {
-    match Rule::for_watch(bytes, slots) {
-        Ok(_) => 0,
-        Err(refusal) => refusal.number(),
-    }
+// The number with which a table is refused for a watch, if it is.
+fn for_watch(bytes: &[u8], slots: usize) -> Result<(), u8> {
+    Rule::for_watch(bytes, slots)
+        .map(|_| ())
+        .map_err(RuleRefusal::number)
 }
 
-// The number with which a table is refused for an instant watch, or 0.
-fn for_instant(bytes: &[u8]) -> u8 {
-    match Rule::for_instant(bytes) {
-        Ok(_) => 0,
-        Err(refusal) => refusal.number(),
-    }
+// The number with which a table is refused for an instant watch, if it is.
+fn for_instant(bytes: &[u8]) -> Result<(), u8> {
+    Rule::for_instant(bytes)
+        .map(|_| ())
+        .map_err(RuleRefusal::number)
 }
 
 #[test]
 fn lengths(rt: HostRuntime) {
     let table = [0; 165];
     let cases = [
-        (0, 1),
-        (1, 1),
-        (4, 1),
-        (5, 0),
-        (6, 1),
-        (159, 1),
-        (160, 0),
-        (161, 1),
-        (165, 1),
+        (0, Err(1)),
+        (1, Err(1)),
+        (4, Err(1)),
+        (5, Ok(())),
+        (6, Err(1)),
+        (159, Err(1)),
+        (160, Ok(())),
+        (161, Err(1)),
+        (165, Err(1)),
     ];
     for (size, want) in cases {
         assert_eq!(rt; for_watch(&table[0..size], 1), want);
@@ -39,20 +37,20 @@ fn lengths(rt: HostRuntime) {
 
 #[test]
 fn records_in_turn(rt: HostRuntime) {
-    let cases: [(&[u8], u8); 12] = [
-        (&[9, 0, 0, 0, 0], 2),
-        (&[2, 0, 0, 0, 0], 3),
-        (&[0, 0, 0, 0, 0, 3, 0, 1, 0, 0], 3),
-        (&[1, 12, 0, 0, 0], 4),
-        (&[1, 11, 0, 0, 0], 0),
-        (&[0, 0, 0, 0, 1], 4),
-        (&[0, 0, 0, 0, 0, 5, 0, 1, 0, 0], 4),
-        (&[0, 0, 0, 0, 0, 5, 0, 0, 2, 1], 5),
-        (&[0, 0, 0, 0, 0, 5, 0, 0, 0, 21], 5),
-        (&[0, 0, 0, 0, 0, 5, 0, 0, 21, 255], 5),
-        (&[0, 0, 0, 0, 0, 5, 0, 0, 20, 255], 0),
+    let cases: [(&[u8], Result<(), u8>); 12] = [
+        (&[9, 0, 0, 0, 0], Err(2)),
+        (&[2, 0, 0, 0, 0], Err(3)),
+        (&[0, 0, 0, 0, 0, 3, 0, 1, 0, 0], Err(3)),
+        (&[1, 12, 0, 0, 0], Err(4)),
+        (&[1, 11, 0, 0, 0], Ok(())),
+        (&[0, 0, 0, 0, 1], Err(4)),
+        (&[0, 0, 0, 0, 0, 5, 0, 1, 0, 0], Err(4)),
+        (&[0, 0, 0, 0, 0, 5, 0, 0, 2, 1], Err(5)),
+        (&[0, 0, 0, 0, 0, 5, 0, 0, 0, 21], Err(5)),
+        (&[0, 0, 0, 0, 0, 5, 0, 0, 21, 255], Err(5)),
+        (&[0, 0, 0, 0, 0, 5, 0, 0, 20, 255], Ok(())),
         // the first record that fails is the one that is told
-        (&[1, 12, 0, 0, 0, 9, 0, 0, 0, 0], 4),
+        (&[1, 12, 0, 0, 0, 9, 0, 0, 0, 0], Err(4)),
     ];
     for (bytes, want) in cases {
         assert_eq!(rt; for_watch(bytes, 1), want);
@@ -67,15 +65,15 @@ const SINCES: [u8; 25] = [
 #[test]
 fn limits(rt: HostRuntime) {
     let sinces = SINCES;
-    let cases: [(&[u8], usize, u8); 7] = [
+    let cases: [(&[u8], usize, Result<(), u8>); 7] = [
         // an until of ten waits, and one with a next beside it
-        (&[0, 0, 0, 0, 0, 8, 0, 0, 0, 9], 1, 0),
-        (&[0, 0, 0, 0, 0, 7, 0, 0, 0, 0, 8, 0, 0, 0, 9], 1, 6),
-        (&sinces[0..20], 1, 0),
-        (&sinces, 1, 7),
-        (&[0, 0, 0, 0, 0], 0, 8),
-        (&[0, 0, 0, 0, 0], 128, 0),
-        (&[0, 0, 0, 0, 0], 129, 8),
+        (&[0, 0, 0, 0, 0, 8, 0, 0, 0, 9], 1, Ok(())),
+        (&[0, 0, 0, 0, 0, 7, 0, 0, 0, 0, 8, 0, 0, 0, 9], 1, Err(6)),
+        (&sinces[0..20], 1, Ok(())),
+        (&sinces, 1, Err(7)),
+        (&[0, 0, 0, 0, 0], 0, Err(8)),
+        (&[0, 0, 0, 0, 0], 128, Ok(())),
+        (&[0, 0, 0, 0, 0], 129, Err(8)),
     ];
     for (bytes, slots, want) in cases {
         assert_eq!(rt; for_watch(bytes, slots), want);
@@ -85,11 +83,11 @@ fn limits(rt: HostRuntime) {
 #[test]
 fn instant_limits(rt: HostRuntime) {
     let sinces = SINCES;
-    let cases: [(&[u8], u8); 4] = [
-        (&sinces[0..20], 0),
-        (&sinces, 7),
-        (&[0, 0, 0, 0, 0, 7, 0, 0, 0, 0], 9),
-        (&[0, 0, 0, 0, 0, 8, 0, 0, 0, 20], 9),
+    let cases: [(&[u8], Result<(), u8>); 4] = [
+        (&sinces[0..20], Ok(())),
+        (&sinces, Err(7)),
+        (&[0, 0, 0, 0, 0, 7, 0, 0, 0, 0], Err(9)),
+        (&[0, 0, 0, 0, 0, 8, 0, 0, 0, 20], Err(9)),
     ];
     for (bytes, want) in cases {
         assert_eq!(rt; for_instant(bytes), want);
