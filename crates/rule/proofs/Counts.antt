@@ -1,15 +1,10 @@
 -- Components and waits of a table, counted.
-use Rattle.std.proofs.Common.{◌≡◌, ℕ, ◌+◌, ◌<◌, ◌≤◌, ltb, List, [], ◌∷◌, length, get_or, take, sum_by, sym, refl, ap, arith}
-use Rattle.std.proofs.lemmas.List.{take_all}
+use Rattle.std.proofs.Common.{◌≡◌, ℕ, ◌+◌, ◌<◌, ◌≤◌, ltb, List, [], ◌∷◌, length, get_or, take, sum_by, refl, arith}
 use Rattle.std.proofs.lemmas.List.Sums.{sum_by-drop_more, sum_by_more, sum_by-take-le}
 use Rattle.std.proofs.lemmas.Bool.{lt-ltb}
 use Rattle.rule.specs.declared.record.Record.{Record}
 use Rattle.rule.specs.declared.record.Record.TheVariants.{True, Letter, Not, And, Or, Previous, Since, Next, Until}
 use Rattle.rule.specs.Components.{own_waits, waits, any_ahead}
-
--- past the last record the numbers go on from all that there are
-pub numbers_past : (w : Record → ℕ) (rs : List Record) (j : ℕ) → length rs ≤ j → sum_by w rs ≡ sum_by w (take j rs)
-numbers_past w rs j h = ap (sum_by w) (sym (take_all j rs h))
 
 -- a future operator is a record with a wait of its own
 pub waits_ahead : (rs : List Record) → ltb 0 (waits rs) ≡ any_ahead rs

@@ -55,13 +55,10 @@ first_mono rs a j h l =
 pub moved_le : (i : Interval) (s g t : ℕ) → moved i s g ≡ Some t → t ≤ last_shift i
 moved_le i s g t e = grind (arith, nat_tests)
 
-never_some : {A X : Type 0} (x : X) → None ≡ Some x → A
-never_some x e = absurd (let z : ◌≡◌ {A = ℕ} 0 1 = cc in omega arith)
-
 -- the arguments of a sound record are earlier records
 pub left_earlier : (j a : ℕ) (r : Record) → allowed j r ≡ true → left_of r ≡ Some a → a < j
-left_earlier j a True h e = never_some a e
-left_earlier j a (Letter l) h e = never_some a e
+left_earlier j a True h e = cc
+left_earlier j a (Letter l) h e = cc
 left_earlier j a (Not b) h e = grind (arith, nat_tests)
 left_earlier j a (And b d) h e = grind (arith, nat_tests)
 left_earlier j a (Or b d) h e = grind (arith, nat_tests)
@@ -71,14 +68,14 @@ left_earlier j a (Next i b) h e = grind (arith, nat_tests)
 left_earlier j a (Until i b d) h e = grind (arith, nat_tests)
 
 pub right_earlier : (j a : ℕ) (r : Record) → allowed j r ≡ true → right_of r ≡ Some a → a < j
-right_earlier j a True h e = never_some a e
-right_earlier j a (Letter l) h e = never_some a e
-right_earlier j a (Not b) h e = never_some a e
+right_earlier j a True h e = cc
+right_earlier j a (Letter l) h e = cc
+right_earlier j a (Not b) h e = cc
 right_earlier j a (And b d) h e = grind (arith, nat_tests)
 right_earlier j a (Or b d) h e = grind (arith, nat_tests)
-right_earlier j a (Previous i b) h e = never_some a e
+right_earlier j a (Previous i b) h e = cc
 right_earlier j a (Since i b d) h e = grind (arith, nat_tests)
-right_earlier j a (Next i b) h e = never_some a e
+right_earlier j a (Next i b) h e = cc
 right_earlier j a (Until i b d) h e = grind (arith, nat_tests)
 
 -- what a sound record rests on one point before is a component
@@ -96,16 +93,16 @@ module _ (rs : List Record) (sound : Sound rs) (j : ℕ) (within-rs : j < length
       grind (arith, nat_tests)
 
   earlier_from : (r : Record) (s c : ℕ) (g : Option ℕ) → get_or rs j True ≡ r → earlier rs r (first_component rs j) s g ≡ Some c → c < components rs
-  earlier_from r s c None q e = never_some c e
-  earlier_from True s c (Some g) q e = never_some c e
-  earlier_from (Letter l) s c (Some g) q e = never_some c e
-  earlier_from (Not a) s c (Some g) q e = never_some c e
-  earlier_from (And a b) s c (Some g) q e = never_some c e
-  earlier_from (Or a b) s c (Some g) q e = never_some c e
+  earlier_from r s c None q e = cc
+  earlier_from True s c (Some g) q e = cc
+  earlier_from (Letter l) s c (Some g) q e = cc
+  earlier_from (Not a) s c (Some g) q e = cc
+  earlier_from (And a b) s c (Some g) q e = cc
+  earlier_from (Or a b) s c (Some g) q e = cc
   earlier_from (Previous i a) s c (Some g) q e = previous_lt i a g c q e
   earlier_from (Since i a b) s c (Some g) q e = since_lt i a b s g c q e
-  earlier_from (Next i a) s c (Some g) q e = never_some c e
-  earlier_from (Until i a b) s c (Some g) q e = never_some c e
+  earlier_from (Next i a) s c (Some g) q e = cc
+  earlier_from (Until i a b) s c (Some g) q e = cc
 
   pub earlier_lt : (s c : ℕ) (g : Option ℕ) → earlier rs (get_or rs j True) (first_component rs j) s g ≡ Some c → c < components rs
   earlier_lt s c g e = earlier_from (get_or rs j True) s c g refl e

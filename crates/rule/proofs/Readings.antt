@@ -1,5 +1,5 @@
 -- One record more of a table that is read.
-use Rattle.std.proofs.Common.{◌≡◌, ℕ, zero, suc, ◌+◌, ◌<◌, ◌≤◌, Bool, true, false, cond, List, [], ◌∷◌, ◌++◌, length, get_or, take, drop, set, Ok, Err, Result, sym, refl, ap, ◌∙◌, subst, inl, inr, arith}
+use Rattle.std.proofs.Common.{◌≡◌, ℕ, ◌+◌, ◌<◌, ◌≤◌, Bool, true, false, cond, List, [], ◌∷◌, ◌++◌, length, get_or, take, drop, set, Ok, Err, Result, sym, refl, ap, ◌∙◌, subst, inl, inr, arith}
 use Rattle.std.proofs.lemmas.List.{append_assoc, append-nil, length_push, get_or_append_left, get_or-append-add, length-take-le, take_more_set}
 use Rattle.std.proofs.lemmas.Bool.{cases_lt}
 use Rattle.std.proofs.lemmas.Bool.Decides.{nat_tests}
@@ -12,16 +12,7 @@ use Rattle.rule.specs.Reading.{Read, read_from, read_table, length_allowed, unle
 
 -- a record that passes its questions can stand in a rule
 checked_allowed : (j kind left right low high : ℕ) → Ok tt ≡ checked j kind left right low high → allowed j (record_of kind left right low high) ≡ true
-checked_allowed j zero left right low high e = grind (arith, nat_tests)
-checked_allowed j (suc zero) left right low high e = grind (arith, nat_tests)
-checked_allowed j (suc (suc zero)) left right low high e = grind (arith, nat_tests)
-checked_allowed j (suc (suc (suc zero))) left right low high e = grind (arith, nat_tests)
-checked_allowed j (suc (suc (suc (suc zero)))) left right low high e = grind (arith, nat_tests)
-checked_allowed j (suc (suc (suc (suc (suc zero))))) left right low high e = grind (arith, nat_tests)
-checked_allowed j (suc (suc (suc (suc (suc (suc zero)))))) left right low high e = grind (arith, nat_tests)
-checked_allowed j (suc (suc (suc (suc (suc (suc (suc zero))))))) left right low high e = grind (arith, nat_tests)
-checked_allowed j (suc (suc (suc (suc (suc (suc (suc (suc zero)))))))) left right low high e = grind (arith, nat_tests)
-checked_allowed j (suc (suc (suc (suc (suc (suc (suc (suc (suc k))))))))) left right low high e = grind (arith, nat_tests)
+checked_allowed j kind left right low high e = grind (arith, nat_tests)
 
 -- what the first five of some bytes say, and what is asked of them as record j
 abbrev record_at : List ℕ → Record
@@ -66,6 +57,7 @@ sound_push rs r s a j h =
           ∙ ap (λ x. allowed x r) z ∙ a
     ]
 
+-- so is a table into which a record that passed is written
 pub sound_more : (t : List Record) (n : ℕ) (xs : List ℕ) → n < length t → Ok tt ≡ checked_at n xs → Sound (take n t) → Sound (take (n + 1) (set t n (record_at xs)))
 sound_more t n xs few e s =
     let r = record_at xs in
@@ -86,21 +78,18 @@ instant_limits rs e = grind (arith, nat_tests)
 -- what is read of a table is sound
 unless_passed : (a : Result (Unit {0}) RuleRefusal) (x : Read) (qs : List Record) → unless a x ≡ Ok qs → (Ok tt ≡ a) × (x ≡ Ok qs)
 unless_passed (Ok u) x qs e = (refl, e)
-unless_passed (Err f) x qs e = let z : ◌≡◌ {A = ℕ} 0 1 = cc in absurd (omega arith)
+unless_passed (Err f) x qs e = cc
 
 preceded_passed : (r : Record) (x : Read) (qs : List Record) → preceded (r ∷ []) x ≡ Ok qs → (ps : List Record) × (x ≡ Ok ps) × (qs ≡ r ∷ ps)
 preceded_passed r (Ok ps) qs e = (ps, refl, cc)
-preceded_passed r (Err f) qs e = let z : ◌≡◌ {A = ℕ} 0 1 = cc in absurd (omega arith)
-
-never_read : {A : Type 0} (qs : List Record) (f : RuleRefusal) → ◌≡◌ {A = Read} (Err f) (Ok qs) → A
-never_read qs f e = let z : ◌≡◌ {A = ℕ} 0 1 = cc in absurd (omega arith)
+preceded_passed r (Err f) qs e = cc
 
 sound_on : (rs : List Record) → Sound rs → (j : ℕ) → j ≡ length rs → (bytes : List ℕ) (qs : List Record) → read_from j bytes ≡ Ok qs → Sound (rs ++ qs)
 sound_on rs s j n [] qs e = let none : [] ≡ qs = cc in subst (λ x. Sound (rs ++ x)) none (subst Sound (sym (append-nil rs)) s)
-sound_on rs s j n (a ∷ []) qs e = never_read qs _ e
-sound_on rs s j n (a ∷ b ∷ []) qs e = never_read qs _ e
-sound_on rs s j n (a ∷ b ∷ c ∷ []) qs e = never_read qs _ e
-sound_on rs s j n (a ∷ b ∷ c ∷ d ∷ []) qs e = never_read qs _ e
+sound_on rs s j n (a ∷ []) qs e = cc
+sound_on rs s j n (a ∷ b ∷ []) qs e = cc
+sound_on rs s j n (a ∷ b ∷ c ∷ []) qs e = cc
+sound_on rs s j n (a ∷ b ∷ c ∷ d ∷ []) qs e = cc
 sound_on rs s j n (kind ∷ left ∷ right ∷ low ∷ high ∷ rest) qs e =
     let r = record_of kind left right low high in
     let a = unless_passed (checked j kind left right low high) (preceded (r ∷ []) (read_from (j + 1) rest)) qs e in
@@ -111,10 +100,10 @@ sound_on rs s j n (kind ∷ left ∷ right ∷ low ∷ high ∷ rest) qs e =
 
 some_read : (bytes : List ℕ) (qs : List Record) → 0 < length bytes → read_from 0 bytes ≡ Ok qs → 0 < length qs
 some_read [] qs h e = absurd (omega arith)
-some_read (a ∷ []) qs h e = never_read qs _ e
-some_read (a ∷ b ∷ []) qs h e = never_read qs _ e
-some_read (a ∷ b ∷ c ∷ []) qs h e = never_read qs _ e
-some_read (a ∷ b ∷ c ∷ d ∷ []) qs h e = never_read qs _ e
+some_read (a ∷ []) qs h e = cc
+some_read (a ∷ b ∷ []) qs h e = cc
+some_read (a ∷ b ∷ c ∷ []) qs h e = cc
+some_read (a ∷ b ∷ c ∷ d ∷ []) qs h e = cc
 some_read (kind ∷ left ∷ right ∷ low ∷ high ∷ rest) qs h e =
     let r = record_of kind left right low high in
     let a = unless_passed (checked 0 kind left right low high) (preceded (r ∷ []) (read_from 1 rest)) qs e in
@@ -123,13 +112,13 @@ some_read (kind ∷ left ∷ right ∷ low ∷ high ∷ rest) qs h e =
 
 cond_passed : (b : Bool) (x : Read) (f : RuleRefusal) (qs : List Record) → cond b x (Err f) ≡ Ok qs → (b ≡ true) × (x ≡ Ok qs)
 cond_passed true x f qs e = (refl, e)
-cond_passed false x f qs e = never_read qs f e
+cond_passed false x f qs e = cc
 
 length_some : (n : ℕ) → length_allowed n ≡ true → 0 < n
 length_some n e = grind (arith, nat_tests)
 
 asked_good : (questions : List Record → Result (Unit {0}) RuleRefusal) (x : Read) (rs : List Record) → asked questions x ≡ Ok rs → (x ≡ Ok rs) × (Ok tt ≡ questions rs)
-asked_good questions (Err f) rs e = never_read rs f e
+asked_good questions (Err f) rs e = cc
 asked_good questions (Ok qs) rs e =
     let a = unless_passed (questions qs) (Ok qs) rs e in
     let same : qs ≡ rs = cc in (a.1, subst (λ z. Ok tt ≡ questions z) same a.0)

@@ -3,6 +3,7 @@ use Rattle.std.specs.Prelude.{◌≡◌, ℕ, ◌+◌, Bool, true, false, cond, 
 use Rattle.std.specs.Option.{option_map}
 use Rattle.rule.specs.declared.record.Record.{Record}
 use Rattle.rule.specs.declared.record.Record.TheVariants.{True, Letter, Not, And, Or, Previous, Since, Next, Until}
+use Rattle.rule.specs.declared.numbers.Numbers.{Numbers}
 use Rattle.rule.specs.Intervals.{within, last_shift, moved}
 
 -- the arguments of a record, if it has them
@@ -86,8 +87,8 @@ any_ahead [] = false
 any_ahead (r ∷ rs) = looks_ahead r || any_ahead rs
 
 -- the numbers of the first component or wait of each record, and how many there are, which is the number past the last record
-abbrev pub Numbered : (Record → ℕ) → List Record → List ℕ → ℕ → Type 0
-Numbered w rs first total = (total ≡ sum_by w rs) × ((j : ℕ) → slice_index_or first j total ≡ sum_by w (take j rs))
+abbrev pub Numbered : {C : Type 0} → (Record → ℕ) → List Record → Numbers C → Type 0
+Numbered w rs n = (n.total ≡ sum_by w rs) × ((j : ℕ) → slice_index_or n.first j n.total ≡ sum_by w (take j rs))
 
 -- the component of the point before that record r at shift s rests on, where r's own first component has the number n and
 -- the gap is g: none at a first point, where the gap does not fit, and at an expired shift

@@ -28,7 +28,7 @@ impl Interval {
     pub fn moved(self, shift: u8, gap: u32) -> Option<u8>
         ensures { result ≡ moved self shift gap }
     {
-        // none is past every interval
+        // None where the sum is past every shift.
         let to = u8::try_from(gap)
             .ok()
             .and_then(|gap| shift.checked_add(gap));

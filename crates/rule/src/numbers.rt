@@ -40,8 +40,8 @@ impl Counted for Waits {
     }
 }
 
-// The number of the first component or wait of each record, and how many there are; the places past the last record have
-// the latter.
+// The number of the first component or wait of each record, and how many there are, which also stands in the places past
+// the last record.
 #[derive(Clone, Copy)]
 pub(crate) struct Numbers<C> {
     first: [u16; MOST_RECORDS],
@@ -53,7 +53,7 @@ impl<C: Counted> Numbers<C> {
     // Numbers the records of a table.
     pub(crate) fn of(records: &[Record]) -> Numbers<C>
         requires { length records.now ≤ 32 }
-        ensures { Numbered C.counted records.now result.first result.total }
+        ensures { Numbered C.counted records.now result }
     {
         let mut first = [0; MOST_RECORDS];
         let mut total = 0;

@@ -13,7 +13,8 @@ use crate::table::Rule;
 fn length_allowed(size: usize) -> bool
     ensures { result ≡ length_allowed size }
 {
-    (RECORD_BYTES..=MOST_RECORDS * RECORD_BYTES).contains(&size) && size % RECORD_BYTES == 0
+    (RECORD_BYTES..=MOST_RECORDS * RECORD_BYTES).contains(&size)
+        && size.is_multiple_of(RECORD_BYTES)
 }
 
 impl Rule {

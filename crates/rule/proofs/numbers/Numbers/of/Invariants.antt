@@ -1,5 +1,5 @@
--- What the loop of `of` keeps.
-use Rattle.std.proofs.Common.{◌≡◌, ℕ, ◌*◌, ◌<◌, ◌≤◌, length, get_or, take, sum_by}
+-- What the loop of `Numbers::of` keeps: the places before j have their numbers, and the total is the number of record j.
+use Rattle.std.proofs.Common.{◌≡◌, ℕ, ◌*◌, ◌<◌, ◌≤◌, get_or, take, sum_by}
 use Rattle.rule.proofs.numbers.Numbers.of.Given as goal
 
 abbrev pub invariant-loop-j : goal.invariant-loop-j

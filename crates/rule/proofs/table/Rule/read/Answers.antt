@@ -1,5 +1,5 @@
 -- What is left to prove of `read`.
-use Rattle.std.proofs.Common.{◌+◌, ◌<◌, ◌≤◌, length, ◌∙◌, arith, rules}
+use Rattle.std.proofs.Common.{◌<◌, ◌≤◌, length, ◌∙◌, arith, rules}
 use Rattle.std.proofs.lemmas.List.{take_rest, length-drop, length-set}
 use Rattle.rule.proofs.Readings.{goes_on, sound_more}
 use Rattle.rule.proofs.table.Rule.read.Goals as goal
