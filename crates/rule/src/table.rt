@@ -1,5 +1,5 @@
 // A rule: the records that were read, and the numbers of their components and waits.
-ghost use Rattle.std.specs.Prelude.{◌≡◌, ◌<◌, ◌≤◌, take};
+ghost use Rattle.std.specs.Prelude.{◌≡◌, ◌<◌, ◌≤◌, length, take};
 ghost use Rattle.rule.specs.Components.{own_waits, shifts, Numbered};
 ghost use Rattle.rule.specs.Records.{Sound};
 
@@ -15,6 +15,7 @@ pub struct Rule {
     pub(crate) len: usize,
     pub(crate) components: Numbers<Components>,
     pub(crate) waits: Numbers<Waits>,
+    ghost long: { length table ≡ 32 },
     ghost some: { 0 < len },
     ghost room: { len ≤ 32 },
     ghost sound: { Sound (take len table) },
