@@ -28,13 +28,9 @@ impl Interval {
     pub fn moved(self, shift: u8, gap: u32) -> Option<u8>
         ensures { result ≡ moved self shift gap }
     {
-        // None where the sum is past every shift.
-        let to = u8::try_from(gap)
-            .ok()
-            .and_then(|gap| shift.checked_add(gap));
-        match self.high {
-            None => Some(to.map_or(self.low, |to| to.min(self.low))),
-            Some(high) => to.filter(|to| *to <= high),
+        match u8::try_from(u64::from(shift) + u64::from(gap)) {
+            Ok(to) if to <= self.last_shift() => Some(to),
+            _ => self.high.is_none().then_some(self.low),
         }
     }
 
