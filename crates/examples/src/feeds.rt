@@ -2,7 +2,7 @@
 ghost use Rattle.feed.specs.Patterns.{pattern_left};
 ghost use Rattle.std.proofs.Common.{lit≤};
 
-use feed::{Cause, Content, Entry, Fault, Feed, Minute, Pattern, Sample, Shift};
+use feed::{Cause, Content, Entry, Fault, Feed, Minute, Pattern, PatternRefusal, Sample, Shift};
 use std::process::Abort;
 
 // Draws all from `feed`, and holds it to `want`.
@@ -19,12 +19,17 @@ fn gives<F: Feed>(rt: &impl Abort, feed: &mut F, want: &[Content]) {
     assert_eq!(rt; feed.draw(), None);
 }
 
-// The number of the refusal of a pattern, or 0.
-fn refused(pattern: &mut Pattern, first: u32, per: u32, words: &[u16], count: u32) -> u8 {
-    match pattern.make(first, per, words, count) {
-        Ok(()) => 0,
-        Err(refusal) => refusal.number(),
-    }
+// What the making of a pattern answers, by the number of the refusal.
+fn made(
+    pattern: &mut Pattern,
+    first: u32,
+    per: u32,
+    words: &[u16],
+    count: u32,
+) -> Result<(), u8> {
+    pattern
+        .make(first, per, words, count)
+        .map_err(PatternRefusal::number)
 }
 
 fn sample(stamp: u32, letters: u16) -> Content {
@@ -38,13 +43,13 @@ fn spoiled(cause: Cause, height: u8) -> Content {
 #[test]
 fn minutes(rt: HostRuntime) {
     let mut pattern = Pattern::new();
-    assert_eq!(rt; refused(&mut pattern, 59, 1, &[1], 2), 0);
+    assert_eq!(rt; made(&mut pattern, 59, 1, &[1], 2), Ok(()));
     gives(
         &rt,
         &mut Minute::new(pattern),
         &[sample(0, 1), sample(1, 1)],
     );
-    assert_eq!(rt; refused(&mut pattern, 118, 1, &[1], 3), 0);
+    assert_eq!(rt; made(&mut pattern, 118, 1, &[1], 3), Ok(()));
     let mut pile = Shift::new(Minute::new(pattern), -2);
     assert_eq!(rt; pile.height(), 2);
     let out = spoiled(Cause::StampRange, 2);
@@ -80,7 +85,7 @@ impl Feed for Tall {
 #[test]
 fn highest_pile(rt: HostRuntime) {
     let mut pattern = Pattern::new();
-    assert_eq!(rt; refused(&mut pattern, 0, 1, &[1], 2), 0);
+    assert_eq!(rt; made(&mut pattern, 0, 1, &[1], 2), Ok(()));
     let fourteen = Shift::new(Tall { beneath: pattern }, 0);
     assert_eq!(rt; fourteen.height(), 14);
     let fifteen = Minute::new(fourteen);

@@ -7,6 +7,8 @@ use feed::{Feed, Minute, Pattern, Shift};
 use logic::{DrawRefusal, Line, Point};
 use printing::{put_counts, put_draw, put_held};
 use std::io::Write;
+use std::num::ParseIntError;
+use std::str::FromStr;
 use std::{env, fs};
 use watch::Watch;
 
@@ -33,16 +35,25 @@ struct Setting {
     words: Vec<u16>,
 }
 
+// The number that the next word is.
+fn next_number<N: FromStr<Err = ParseIntError>>(
+    words: &mut impl Iterator<Item = String>,
+) -> anyhow::Result<N> {
+    let word = words
+        .next()
+        .context("usage: FIRST PER COUNT SHIFT SLOTS WORD..")?;
+    Ok(word.parse::<N>()?)
+}
+
 // The words behind the command.
 fn read_setting(rt: &HostRuntime) -> anyhow::Result<Setting> {
     let mut args = env::args(rt)?.skip(1);
-    let usage = "usage: FIRST PER COUNT SHIFT SLOTS WORD..";
     let mut setting = Setting {
-        first: args.next().context(usage)?.parse::<u32>()?,
-        per: args.next().context(usage)?.parse::<u32>()?,
-        count: args.next().context(usage)?.parse::<u32>()?,
-        shift: args.next().context(usage)?.parse::<i32>()?,
-        slots: args.next().context(usage)?.parse::<usize>()?,
+        first: next_number(&mut args)?,
+        per: next_number(&mut args)?,
+        count: next_number(&mut args)?,
+        shift: next_number(&mut args)?,
+        slots: next_number(&mut args)?,
         words: Vec::new(rt.alloc()),
     };
     for word in args {
@@ -84,9 +95,8 @@ fn read_out(rt: &HostRuntime, watch: &Watch) -> anyhow::Result<()> {
 
 // Draws until no entry is left.
 fn judge(rt: &HostRuntime, watch: &mut Watch, pile: &mut Pile) -> anyhow::Result<()> {
-    for turn in 0..MOST_DRAWS {
-        let lines = TRAYS[turn as usize % TRAYS.len()];
-        if !draw_once(rt, watch, pile, lines)? {
+    for (turn, lines) in (0..MOST_DRAWS).zip(TRAYS.iter().cycle()) {
+        if !draw_once(rt, watch, pile, *lines)? {
             break;
         }
         if turn % READ_OUT == READ_OUT - 1 {

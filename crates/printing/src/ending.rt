@@ -13,10 +13,10 @@ use watch::Watch;
 pub fn put_held(out: &mut Vec<u8>, watch: &Watch) -> Result<(), AllocError>
     ensures { OnOk result (out.new.items ≡ out.old.items ++ printed (held_reports (state watch.now).held)) }
 {
-    let mut k = 0;
-    while let Some(point) = watch.held_point(k) {
-        put_report(out, Report::Held(point))?;
-        k += 1;
+    for k in 0..watch.held() {
+        if let Some(point) = watch.held_point(k) {
+            put_report(out, Report::Held(point))?;
+        }
     }
     Ok(())
 }

@@ -44,9 +44,9 @@ fn refusal_report(refusal: DrawRefusal) -> Option<Report>
             number,
             fault,
         }),
-        DrawRefusal::Stamp { place } => Some(Report::Refused { place, number }),
-        DrawRefusal::Crowded { place } => Some(Report::Refused { place, number }),
-        DrawRefusal::Slots { place } => Some(Report::Refused { place, number }),
+        DrawRefusal::Stamp { place }
+        | DrawRefusal::Crowded { place }
+        | DrawRefusal::Slots { place } => Some(Report::Refused { place, number }),
     }
 }
 
@@ -70,12 +70,12 @@ pub fn put_draw<F: Feed>(
             put_lines(out, &tray[0..n])?;
             Ok(true)
         }
-        Err(refusal) => match refusal_report(refusal) {
-            Some(report) => {
-                put_report(out, report)?;
-                Ok(true)
-            }
-            None => Ok(false),
-        },
+        Err(refusal) => {
+            let Some(report) = refusal_report(refusal) else {
+                return Ok(false);
+            };
+            put_report(out, report)?;
+            Ok(true)
+        }
     }
 }

@@ -24,7 +24,12 @@ impl Condition {
     fn is_all(&self, word: u64) -> bool
         ensures { Decides result (self.now ≡ uniform word) }
     {
-        self.words.iter().all(|&own| own == word)
+        for own in &self.words {
+            if *own != word {
+                return false;
+            }
+        }
+        true
     }
 
     // Whether the condition is always.

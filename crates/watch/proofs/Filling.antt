@@ -1,8 +1,8 @@
 -- Filling in conditions: letters that are given agree with the sample's, and one row more.
-use Rattle.std.proofs.Common.{◌≡◌, ℕ, suc, ◌+◌, ◌<◌, ◌≤◌, true, leb, List, [], ◌∷◌, ◌++◌, map, length, get_or, take, drop, Some, None, Option, sym, refl, ap, ◌∙◌, ap₂, arith}
+use Rattle.std.proofs.Common.{◌≡◌, ℕ, suc, ◌+◌, ◌<◌, ◌≤◌, true, leb, List, [], ◌∷◌, ◌++◌, map, length, get_or, take, drop, set, Some, None, Option, sym, refl, ap, ◌∙◌, ap₂, arith}
 use Rattle.std.specs.List.{range_with_len}
 use Rattle.std.proofs.lemmas.List.FromFn.{get_or-map-range_with_len, length-map-range_with_len, map-range_with_len_more}
-use Rattle.std.proofs.lemmas.List.{get_or_past, length-append, length-take-le}
+use Rattle.std.proofs.lemmas.List.{append-nil, get_or_past, length-append, length-take-le}
 use Rattle.std.proofs.lemmas.Bool.{leb-true}
 use Rattle.truth.specs.declared.table.Condition.{Condition}
 use Rattle.truth.specs.Tables.{openly}
@@ -10,7 +10,7 @@ use Rattle.truth.specs.Replacing.{replaced}
 use Rattle.truth.proofs.Tabled.{replaced_never}
 use Rattle.feed.specs.Entries.{letter_count}
 use Rattle.feed.specs.Lists.{onto}
-use Rattle.feed.proofs.Onto.{onto_onto, onto_split, take_onto}
+use Rattle.feed.proofs.Onto.{onto_more, onto_onto, onto_part, onto_split, take_onto}
 use Rattle.rule.specs.declared.record.Record.{Record}
 use Rattle.rule.specs.declared.record.Record.TheVariants.{True, Letter, Not, And, Or, Previous, Since, Next, Until}
 use Rattle.rule.specs.Limits.{last_letter}
@@ -39,6 +39,29 @@ spelled_evaluated w ls e j (Since i a b) h s left right from = refl
 spelled_evaluated w ls e j (Next i a) h s left right from = refl
 spelled_evaluated w ls e j (Until i a b) h s left right from = refl
 
+-- a record without arguments has one shift, and looks at nothing but the letters
+pub leaf_shifts : (r : Record) → None ≡ left_of r → shifts r ≡ 1
+leaf_shifts True h = refl
+leaf_shifts (Letter l) h = refl
+leaf_shifts (Not a) h = absurd (let z : ◌≡◌ {A = ℕ} 0 1 = cc in omega arith)
+leaf_shifts (And a b) h = absurd (let z : ◌≡◌ {A = ℕ} 0 1 = cc in omega arith)
+leaf_shifts (Or a b) h = absurd (let z : ◌≡◌ {A = ℕ} 0 1 = cc in omega arith)
+leaf_shifts (Previous i a) h = absurd (let z : ◌≡◌ {A = ℕ} 0 1 = cc in omega arith)
+leaf_shifts (Since i a b) h = absurd (let z : ◌≡◌ {A = ℕ} 0 1 = cc in omega arith)
+leaf_shifts (Next i a) h = absurd (let z : ◌≡◌ {A = ℕ} 0 1 = cc in omega arith)
+leaf_shifts (Until i a b) h = absurd (let z : ◌≡◌ {A = ℕ} 0 1 = cc in omega arith)
+
+pub leaf_same : (r : Record) → None ≡ left_of r → (ls : ℕ → Condition) (s : ℕ) (a b c x y z : Condition) → evaluated openly r s ls a b c ≡ evaluated openly r s ls x y z
+leaf_same True h ls s a b c x y z = refl
+leaf_same (Letter l) h ls s a b c x y z = refl
+leaf_same (Not d) h ls s a b c x y z = absurd (let z : ◌≡◌ {A = ℕ} 0 1 = cc in omega arith)
+leaf_same (And d e) h ls s a b c x y z = absurd (let z : ◌≡◌ {A = ℕ} 0 1 = cc in omega arith)
+leaf_same (Or d e) h ls s a b c x y z = absurd (let z : ◌≡◌ {A = ℕ} 0 1 = cc in omega arith)
+leaf_same (Previous i d) h ls s a b c x y z = absurd (let z : ◌≡◌ {A = ℕ} 0 1 = cc in omega arith)
+leaf_same (Since i d e) h ls s a b c x y z = absurd (let z : ◌≡◌ {A = ℕ} 0 1 = cc in omega arith)
+leaf_same (Next i d) h ls s a b c x y z = absurd (let z : ◌≡◌ {A = ℕ} 0 1 = cc in omega arith)
+leaf_same (Until i d e) h ls s a b c x y z = absurd (let z : ◌≡◌ {A = ℕ} 0 1 = cc in omega arith)
+
 -- a component's condition, if there is one
 pub before_at : (vs : List Condition) (o : Option ℕ) → instant.before openly vs o ≡ at_shift_or (among vs) openly.never o
 before_at vs None = refl
@@ -54,6 +77,14 @@ row_split S front back R row n m w room at f b e long =
 -- where nothing lies across the gap, never is carried to never
 pub brought_past : (ws before : List Condition) (c : ℕ) → length before ≤ c → openly.never ≡ brought ws before (Some c)
 brought_past ws before c h = replaced_never ws ∙ ap (replaced ws) (sym (get_or_past before c openly.never h))
+
+-- a row of one element
+pub row_of_one : {T : Type 0} (S : List T) (n m : ℕ) (v : T) (f : ℕ → T) → n < length S → m ≡ 1 → v ≡ f 0 → set S n v ≡ onto (take n S ++ map f (range_with_len 0 m)) S
+row_of_one S n m v f h e is =
+    ap (λ X. set X n v) (onto_part S n (omega arith) ∙ ap (λ A. onto A S) (append-nil (take n S)))
+    ∙ onto_more (take n S) S n v (length-take-le n S (omega arith)) h
+    ∙ ap (λ x. onto (take n S ++ x ∷ []) S) is
+    ∙ ap (λ k. onto (take n S ++ map f (range_with_len 0 k)) S) (sym e)
 
 -- a row behind what is written already
 pub row_behind : {T : Type 0} (A B S : List T) (n : ℕ) → length A ≡ n → onto (take n (onto A S) ++ B) (onto A S) ≡ onto (A ++ B) S

@@ -6,8 +6,8 @@ ghost use Rattle.truth.specs.Tables.{openly};
 ghost use Rattle.feed.specs.Lists.{onto};
 ghost use Rattle.rule.specs.Components.{components, first_component, first_wait, waits};
 ghost use Rattle.rule.specs.Reading.{records};
-ghost use Rattle.logic.specs.Draws.{among, brought, conditioned, filled, given, row_values, row_waits};
-ghost use Rattle.logic.specs.Steps.{renewed};
+ghost use Rattle.logic.specs.Draws.{among, brought, conditioned, filled, given, lettered, row_values, row_waits};
+ghost use Rattle.logic.specs.Steps.{evaluated, renewed};
 ghost use Rattle.logic.specs.Tables.{row};
 ghost use Rattle.logic.specs.Values.{at_shift_or};
 
@@ -50,7 +50,10 @@ impl Filling<'_> {
         if self.rule.record(j).looks_ahead() {
             return Condition::wait(self.rule.first_wait(j) + shift as usize);
         }
-        self.brought(self.rule.earlier_component(j, shift, self.arrival.gap), becomes)
+        self.brought(
+            self.rule.earlier_component(j, shift, self.arrival.gap),
+            becomes,
+        )
     }
 
     // Fills in the conditions of record j, at each of its shifts, over those of earlier records.
@@ -75,14 +78,30 @@ impl Filling<'_> {
         }
     }
 
+    // The condition of a record j that has no arguments: it looks at the letters alone.
+    fn leaf(&self, j: usize) -> Condition
+        requires { j < length (records self.now.rule.now) }
+        ensures { result ≡ evaluated openly (row (records self.now.rule.now) j) 0 (lettered self.now.arrival.now.sample.letters) openly.never openly.never openly.never }
+    {
+        let never = Condition::never();
+        let letters = &self.arrival.letters;
+        evaluate(self.rule.record(j), 0, letters, never, never, never)
+    }
+
     // Fills in the conditions of record j.
     fn fill_row(&self, j: usize, becomes: &[Condition], values: &mut [Condition])
         requires within { j < length (records self.now.rule.now) }
         requires room { components (records self.now.rule.now) ≤ length values.old }
         ensures { values.new ≡ onto (take (first_component (records self.now.rule.now) j) values.old ++ row_values (records self.now.rule.now) self.now.arrival.now.sample.letters self.now.arrival.now.gap self.now.before.now (take (first_component (records self.now.rule.now) j) values.old) becomes.now j) values.old }
     {
-        let shifts = usize::from(self.rule.record(j).shifts());
-        let (earlier, rest) = values.split_at_mut(self.rule.first_component(j));
+        let record = self.rule.record(j);
+        let first = self.rule.first_component(j);
+        if record.left().is_none() {
+            values[first] = self.leaf(j);
+            return;
+        }
+        let (earlier, rest) = values.split_at_mut(first);
+        let shifts = usize::from(record.shifts());
         self.fill_shifts(j, becomes, earlier, &mut rest[..shifts]);
     }
 

@@ -7,24 +7,16 @@ use crate::session::{SHELF, Session};
 use feed::{Entry, Sample};
 use instant::InstantWatch;
 use lines::{Counts, Report};
-use logic::{Line, Point};
+use logic::{DrawRefusal, Line, Point};
 
 // A card has no more bytes: ten thousand records of six.
 pub const MOST_LOG_BYTES: usize = 60_000;
-
-// The number of the refusal of an entry that is spoiled, and of one at a stamp that has no room for one more point.
-const SPOILED: u8 = 24;
-
-const CROWDED: u8 = 26;
 
 // Whether an entry was accepted, by the report of it.
 fn is_verdict(report: Report) -> bool
     ensures { result ≡ is_verdict report }
 {
-    match report {
-        Report::Line(_) => true,
-        _ => false,
-    }
+    matches!(report, Report::Line(_))
 }
 
 impl Session {
@@ -33,11 +25,9 @@ impl Session {
         ensures { told result ≡ begins (asked instant_questions (read_table rule.now)) log }
     {
         let mut watch = InstantWatch::new();
-        if let Err(refusal) = watch.fit(rule) {
-            return Err(Report::RuleRefused {
-                number: refusal.number(),
-            });
-        }
+        watch.fit(rule).map_err(|refusal| Report::RuleRefused {
+            number: refusal.number(),
+        })?;
         if log > MOST_LOG_BYTES {
             return Err(Report::LogTooLong);
         }
@@ -73,7 +63,7 @@ impl Session {
         match entry.content {
             Err(fault) => Report::Spoiled {
                 place,
-                number: SPOILED,
+                number: DrawRefusal::Spoiled { place, fault }.number(),
                 fault,
             },
             Ok(sample) => self.judge_sample(place, sample),
@@ -113,7 +103,7 @@ impl Session {
         let Some(offset) = self.next_offset(sample.stamp) else {
             return Report::Refused {
                 place,
-                number: CROWDED,
+                number: DrawRefusal::Crowded { place }.number(),
             };
         };
         let point = Point {

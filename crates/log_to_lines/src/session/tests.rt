@@ -20,14 +20,12 @@ fn crowded_stamp(rt: HostRuntime) -> Result<(), Fail> {
     for _ in 0..65_536 {
         assert!(rt; matches!(judged(&mut session, 5), Report::Line(_)));
     }
-    assert!(rt;
-        matches!(
-            judged(&mut session, 5),
-            Report::Refused {
-                place: 7,
-                number: 26
-            }
-        )
+    assert_eq!(rt;
+        judged(&mut session, 5),
+        Report::Refused {
+            place: 7,
+            number: 26
+        }
     );
     assert!(rt; matches!(judged(&mut session, 6), Report::Line(_)));
     Ok(())
