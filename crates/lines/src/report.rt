@@ -1,6 +1,11 @@
 // What the program can print.
+ghost use Rattle.std.specs.Prelude.{◌≡◌};
+ghost use Rattle.rule.specs.Refusals.{refusal_number};
+ghost use Rattle.lines.specs.declared.report.Report.TheVariants.{RuleRefused};
+
 use feed::Fault;
 use logic::{Line, Point};
+use rule::RuleRefusal;
 
 // How many entries were drawn, accepted and turned away, and how many points are held.
 #[derive(Clone, Copy, PartialEq, Eq, Debug)]
@@ -37,4 +42,15 @@ pub enum Report {
     },
     // A log that has too many bytes.
     LogTooLong,
+}
+
+// A rule's refusal is reported by its number.
+impl From<RuleRefusal> for Report {
+    ghost from_gives = { λ refusal report. report ≡ RuleRefused (refusal_number refusal) };
+
+    fn from(refusal: RuleRefusal) -> Report {
+        Report::RuleRefused {
+            number: refusal.number(),
+        }
+    }
 }

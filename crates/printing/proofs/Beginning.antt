@@ -25,10 +25,10 @@ pub none_drawn : (x : Read) (u : Unit {0}) (st old : State) → Ok u ≡ fit_ans
 none_drawn (Ok rs) u st old a e = ap (λ (s : State). s.drawn) e
 none_drawn (Err f) u st old a e = not_refused u f (sym a)
 
-pub refused_print : (x : Read) (card : List ℕ) (f : RuleRefusal) (n : ℕ) (text : List ℕ) → Err f ≡ fit_answer x → n ≡ refusal_number f → text ≡ line_bytes (report.RuleRefused n) → text ≡ printed (all_reports x card)
-refused_print (Ok rs) card f n text a i e = not_refused tt f a
-refused_print (Err g) card f n text a i e =
-    let same : f ≡ g = cc in e ∙ ap (λ m. line_bytes (report.RuleRefused m)) (i ∙ ap refusal_number same) ∙ sym (append-nil (line_bytes (report.RuleRefused (refusal_number g))))
+pub refused_print : (x : Read) (card : List ℕ) (f : RuleRefusal) (text : List ℕ) → Err f ≡ fit_answer x → text ≡ line_bytes (report.RuleRefused (refusal_number f)) → text ≡ printed (all_reports x card)
+refused_print (Ok rs) card f text a e = not_refused tt f a
+refused_print (Err g) card f text a e =
+    let same : f ≡ g = cc in e ∙ ap (λ h. line_bytes (report.RuleRefused (refusal_number h))) same ∙ sym (append-nil (line_bytes (report.RuleRefused (refusal_number g))))
 
 pub long_print : (x : Read) (card : List ℕ) (u : Unit {0}) (text : List ℕ) → Ok u ≡ fit_answer x → most_card_bytes < length card → text ≡ line_bytes report.LogTooLong → text ≡ printed (all_reports x card)
 long_print (Err f) card u text a h e = not_refused u f (sym a)

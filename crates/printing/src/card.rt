@@ -50,12 +50,7 @@ pub fn print_card(heap: Global, rule: &[u8], card: &[u8]) -> Result<Vec<u8>, All
     let mut out = Vec::new(heap);
     let mut watch = Watch::new();
     match watch.fit(rule, MOST_SLOTS) {
-        Err(refusal) => put_report(
-            &mut out,
-            Report::RuleRefused {
-                number: refusal.number(),
-            },
-        )?,
+        Err(refusal) => put_report(&mut out, Report::from(refusal))?,
         Ok(()) if card.len() > MOST_CARD_BYTES => put_report(&mut out, Report::LogTooLong)?,
         Ok(()) => put_card(&mut out, &mut watch, card)?,
     }

@@ -20,12 +20,13 @@ fn filled(word: u64) -> Condition
 }
 
 impl Condition {
-    // Whether every word is the same as `word`.
+    // Whether every word is the same as `word`. The loop goes by index, since one over the words themselves is compiled to compare
+    // all of them, where the first word mostly tells.
     fn is_all(&self, word: u64) -> bool
         ensures { Decides result (self.now ≡ uniform word) }
     {
-        for own in &self.words {
-            if *own != word {
+        for i in 0..WORDS {
+            if self.words[i] != word {
                 return false;
             }
         }

@@ -25,9 +25,7 @@ impl Session {
         ensures { told result ≡ begins (asked instant_questions (read_table rule.now)) log }
     {
         let mut watch = InstantWatch::new();
-        watch.fit(rule).map_err(|refusal| Report::RuleRefused {
-            number: refusal.number(),
-        })?;
+        watch.fit(rule)?;
         if log > MOST_LOG_BYTES {
             return Err(Report::LogTooLong);
         }

@@ -4,6 +4,7 @@ use Rattle.std.proofs.lemmas.Result.{IfOk-from_err}
 use Rattle.rule.specs.Reading.{asked, read_table, watch_questions}
 use Rattle.rule.proofs.Readings.{tables_sound}
 use Rattle.watch.specs.States.{state}
+use Rattle.lines.specs.Reports.{line_bytes}
 use Rattle.printing.proofs.Beginning.{after_none, card_print, long_print, none_drawn, refused_print}
 use Rattle.printing.proofs.Telling.{all_told, card_few}
 use Rattle.printing.proofs.card.print_card.Goals as goal
@@ -31,8 +32,8 @@ returns c =
     record {
       text = elim c.match-fit.branch [
         | in-Err+in_ok-put_report-in-Err w ↦
-            refused_print x card w.in-Err.refusal w.number.result (vec_items c.match-fit.out) w.in-Err.ensures.answer w.number.ensures
-            (ap vec_items w.out-is ∙ w.in_ok-put_report-in-Err.ensures ∙ after_none c.new-out.ensures.items)
+            refused_print x card w.in-Err.refusal (vec_items c.match-fit.out) w.in-Err.ensures.answer
+            (ap vec_items w.out-is ∙ w.in_ok-put_report-in-Err.ensures ∙ after_none c.new-out.ensures.items ∙ ap line_bytes w.from.ensures)
         | in-Ok+in_ok-put_report-in-Ok w ↦
             long_print x card w.in-Ok.field-0 (vec_items c.match-fit.out) w.in-Ok.ensures.answer w.if-card-gt-MOST_CARD_BYTES.true
             (ap vec_items w.out-is ∙ w.in_ok-put_report-in-Ok.ensures ∙ after_none c.new-out.ensures.items)

@@ -1,25 +1,20 @@
--- What is left to prove of `put_held`.
-use Rattle.std.proofs.Common.{◌≡◌, ◌+◌, ◌<◌, ◌++◌, length, drop, vec_items, sym, ap, ◌∙◌, arith}
+-- The next held point is put behind the text, and none is left.
+use Rattle.std.proofs.Common.{◌≡◌, ◌+◌, ◌<◌, ◌++◌, length, drop, vec_items, sym, ap, ◌∙◌, arith, rules}
 use Rattle.std.proofs.lemmas.List.{append-nil}
 use Rattle.printing.specs.Reports.{held_reports, printed}
 use Rattle.watch.specs.States.{state}
-use Rattle.printing.proofs.Prints.{held_more, held_none}
+use Rattle.printing.proofs.Prints.{held_more, held_some}
 use Rattle.printing.proofs.ending.put_held.Goals as goal
+use Rattle.printing.proofs.ending.put_held.Goals.{in-Some+in_ok-put_report, in_default}
 
--- the next held point is put behind the text
-on : (c : goal.In_ok-put_report) → let held = (state c.args.watch.now).held in
-    (vec_items c.put_report.new.out ++ printed (held_reports (drop (c.loop-point.k + 1) held)) ≡ vec_items c.args.out.now ++ printed (held_reports held)) × (c.loop-point.k < length held)
-on c =
-    held_more (state c.args.watch.now).held c.loop-point.k c.in-Some.point c.in-Some.ensures (vec_items c.loop-point.out) (vec_items c.put_report.new.out) _
-    c.loop-point.invariant.0 c.in_ok-put_report.ensures
-
-pub loop-point-smaller : goal.loop-point-smaller
-loop-point-smaller c = let lt : c.loop-point.k < length (state c.args.watch.now).held = (on c).1 in omega arith
-
-pub loop-point-preserved : goal.loop-point-preserved
-loop-point-preserved c = let lt = (on c).1 in ((on c).0, omega arith, c.loop-point.invariant.2)
-
-pub returns : goal.returns
-returns c =
-    let none = held_none (state c.args.watch.now).held c.loop-point.k (sym c.in_default.is ∙ c.held_point.ensures) in
-    sym (append-nil (vec_items c.loop-point.out)) ∙ sym (ap (λ z. vec_items c.loop-point.out ++ printed z) none) ∙ c.loop-point.invariant.0
+pub loop-k-preserved : goal.loop-k-preserved
+loop-k-preserved c =
+    let held = (state c.args.watch.now).held in
+    let k = c.loop-k.k in
+    let left : k < length held = omega (arith, c.loop-k-test.true, c.held-k-end.ensures) in
+    elim c.match-held_point.branch [
+      | in-Some+in_ok-put_report w ↦
+          ap (λ v. vec_items v ++ printed (held_reports (drop (k + 1) held))) w.out-is
+          ∙ (held_more held k w.in-Some.point w.in-Some.ensures (vec_items c.loop-k.out) (vec_items w.put_report.new.out) _ c.loop-k.invariant w.in_ok-put_report.ensures).0
+      | in_default w ↦ held_some held k left w.in_default.ensures
+    ]

@@ -1,11 +1,12 @@
+-- What a sample or a spoiled entry brings.
 use Rattle.std.proofs.Common.{sym, ap, ◌∙◌}
 use Rattle.feed.specs.Entries.{Content}
 use Rattle.rule.specs.Reading.{records}
 use Rattle.log_to_lines.specs.Sessions.{content_report}
 use Rattle.log_to_lines.proofs.session.Session.judge_content.Goals as goal
 
-pub returns-in-Sample : goal.returns-in-Sample
-returns-in-Sample c =
+pub returns-in-Ok : goal.returns-in-Ok
+returns-in-Ok c =
     let s = c.args.self.now in
     record {
       report = c.judge_sample.ensures.report
