@@ -6,7 +6,9 @@ use anyhow::Context;
 use feed::{Feed, Minute, Pattern, Shift};
 use logic::{DrawRefusal, Line, Point};
 use printing::{put_counts, put_draw, put_held};
+use std::env::Args;
 use std::io::Write;
+use std::iter::Skip;
 use std::num::ParseIntError;
 use std::str::FromStr;
 use std::{env, fs};
@@ -36,9 +38,7 @@ struct Setting {
 }
 
 // The number that the next word is.
-fn next_number<N: FromStr<Err = ParseIntError>>(
-    words: &mut impl Iterator<Item = String>,
-) -> anyhow::Result<N> {
+fn next_number<N: FromStr<Err = ParseIntError>>(words: &mut Skip<Args>) -> anyhow::Result<N> {
     let word = words
         .next()
         .context("usage: FIRST PER COUNT SHIFT SLOTS WORD..")?;
