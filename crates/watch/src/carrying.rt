@@ -6,10 +6,10 @@ use logic::HeldPoint;
 use truth::Condition;
 
 // Carries points: the condition of each is replaced by its carried one, by what the waits have become.
-pub(crate) fn carry_all(held: &mut [HeldPoint], becomes: &[Condition])
-    ensures { held.new ≡ carried_points becomes.now held.old }
+pub(crate) fn carry_all(points: &mut [HeldPoint], becomes: &[Condition])
+    ensures { points.new ≡ carried_points becomes.now points.old }
 {
-    for i in 0..held.len() {
-        held[i].condition = held[i].condition.replaced(becomes);
+    for point in points {
+        point.condition = point.condition.replaced(becomes);
     }
 }

@@ -46,9 +46,7 @@ impl Watch {
         if !feed.has_entry() {
             return Err(DrawRefusal::Ended);
         }
-        match feed.draw() {
-            Some(entry) => self.take(entry, tray),
-            None => Err(DrawRefusal::Ended),
-        }
+        let entry = feed.draw().ok_or(DrawRefusal::Ended)?;
+        self.take(entry, tray)
     }
 }

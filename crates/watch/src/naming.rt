@@ -8,20 +8,14 @@ use logic::Point;
 pub(crate) fn is_late(newest: Option<Point>, stamp: u32) -> bool
     ensures { result ≡ late newest stamp }
 {
-    match newest {
-        Some(point) => stamp < point.stamp,
-        None => false,
-    }
+    newest.is_some_and(|point| stamp < point.stamp)
 }
 
 // The gap from the newest point, if there is one.
 pub(crate) fn gap_from(newest: Option<Point>, stamp: u32) -> Option<u32>
     ensures { result ≡ gap_from newest stamp }
 {
-    match newest {
-        Some(point) => Some(stamp.saturating_sub(point.stamp)),
-        None => None,
-    }
+    newest.map(|point| stamp.saturating_sub(point.stamp))
 }
 
 // The name of a new point at a stamp; none where that stamp has no offset left.

@@ -39,10 +39,6 @@ impl Watch {
     pub fn held_point(&self, k: usize) -> Option<Point>
         ensures { result ≡ held_name (state self.now) k }
     {
-        if k < self.count {
-            Some(self.held[k].point)
-        } else {
-            None
-        }
+        self.held[..self.count].get(k).map(|held| held.point)
     }
 }

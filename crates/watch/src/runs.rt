@@ -56,10 +56,8 @@ impl Watch {
         ensures reached { (rs : List Record) → asked (watch_questions slots) (read_table bytes.now) ≡ Ok rs → (k : ℕ) → Led rs slots (F.Feed.entries feed.old) (stages (newly_fitted rs slots (F.Feed.entries feed.old)) (take k calls.now)) }
         ensures promise { (rs : List Record) → asked (watch_questions slots) (read_table bytes.now) ≡ Ok rs → (k : ℕ) → Kept rs slots (F.Feed.entries feed.old) (stages (newly_fitted rs slots (F.Feed.entries feed.old)) (take k calls.now)) }
     {
-        match self.fit(bytes, slots) {
-            Ok(()) => Ok(self.make_calls(feed, calls, answers)),
-            Err(refusal) => Err(refusal),
-        }
+        self.fit(bytes, slots)?;
+        Ok(self.make_calls(feed, calls, answers))
     }
 
     // Makes the calls on the watch as it is.
@@ -70,9 +68,8 @@ impl Watch {
         ensures answers { answers.new ≡ onto (stages (stage_at (state self.old) (F.Feed.entries feed.old)) (take result calls.now)).answers answers.old }
     {
         let n = calls.len().min(answers.len());
-        for i in 0..n {
-            let call = calls[i];
-            answers[i] = self.answer(feed, call);
+        for (i, call) in calls[..n].iter().enumerate() {
+            answers[i] = self.answer(feed, *call);
         }
         n
     }

@@ -3,5 +3,5 @@ use Rattle.std.proofs.Common.{◌≡◌, ◌++◌, take, drop}
 use Rattle.logic.specs.Draws.{carried_points}
 use Rattle.watch.proofs.carrying.carry_all.Given as goal
 
-abbrev pub invariant-loop-i : goal.invariant-loop-i
-invariant-loop-i l = l.held ≡ carried_points l.becomes (take l.i l.initial.held) ++ drop l.i l.initial.held
+abbrev pub invariant-loop-point : goal.invariant-loop-point
+invariant-loop-point l = l.point-items ≡ carried_points l.becomes (take l.point-index l.initial.point-items) ++ drop l.point-index l.initial.point-items

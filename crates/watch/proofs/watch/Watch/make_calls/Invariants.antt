@@ -1,5 +1,5 @@
--- What the loop of `make_calls` keeps.
-use Rattle.std.proofs.Common.{◌≡◌, ◌≤◌, length, take}
+-- The first calls are made.
+use Rattle.std.proofs.Common.{◌≡◌, take}
 use Rattle.feed.specs.Lists.{onto}
 use Rattle.watch.specs.States.{state}
 use Rattle.watch.specs.Calls.{stage_at, stages}
@@ -8,6 +8,8 @@ use Rattle.watch.proofs.watch.Watch.make_calls.Given as goal
 abbrev pub invariant-loop-i : goal.invariant-loop-i
 invariant-loop-i g l =
     let now = stages (stage_at (state l.initial.self) (g.F.Feed.entries l.initial.feed)) (take l.i l.calls) in
-    (length l.answers ≡ length l.initial.answers) × (l.n ≤ length l.calls) × (l.n ≤ length l.initial.answers)
-    × (state l.self ≡ now.state) × (g.F.Feed.entries l.feed ≡ now.rest)
-    × (l.answers ≡ onto now.answers l.initial.answers)
+    record {
+      state : state l.self ≡ now.state;
+      entries : g.F.Feed.entries l.feed ≡ now.rest;
+      answers : l.answers ≡ onto now.answers l.initial.answers;
+    }

@@ -1,4 +1,5 @@
-use Rattle.std.proofs.Common.{◌<◌, min, length, take, sym, ap, ◌∙◌, arith}
+-- A run on a rule that is fitted, and on one that is refused.
+use Rattle.std.proofs.Common.{◌≡◌, ◌<◌, min, length, take, Err, sym, ap, ◌∙◌, arith, rules}
 use Rattle.std.proofs.lemmas.List.{length-take-le}
 use Rattle.feed.specs.Lists.{onto}
 use Rattle.rule.specs.Reading.{asked, read_table, records, watch_questions}
@@ -7,8 +8,8 @@ use Rattle.watch.specs.Calls.{Played, run_answer, stage_at, stages}
 use Rattle.watch.proofs.Calling.{bad_played, bad_run, bad_state, fitted_table, good_played, good_run, kept_stages, never_both, stages_reached}
 use Rattle.watch.proofs.watch.Watch.run.Goals as goal
 
-pub returns-in-Ok : goal.returns-in-Ok
-returns-in-Ok g c =
+pub returns : goal.returns
+returns g c =
     let slots = c.args.slots in
     let x = asked (watch_questions slots) (read_table c.args.bytes.now) in
     let old = state c.args.self.now in
@@ -18,8 +19,8 @@ returns-in-Ok g c =
     let calls = c.args.calls.now in
     let S = c.args.answers.now in
     let n = min (length calls) (length S) in
-    let u = c.in-Ok.field-0 in
-    let fine = sym c.in-Ok.is ∙ c.fit.ensures.answer in
+    let u = c.in_ok-fit.field-0 in
+    let fine = sym c.in_ok-fit.was ∙ c.fit.ensures.answer in
     let fitting = c.fit.ensures.state in
     let count = c.make_calls.ensures.count in
     let whole = good_played x slots old st es u (take n calls) fine fitting in
@@ -33,8 +34,8 @@ returns-in-Ok g c =
       promise = λ rs e k. kept_stages rs (records w.rule) slots es (fitted_table x slots old st es rs e fitting) w.rule.sound w.few_waits some (take k calls);
     }
 
-pub returns-in-Err : goal.returns-in-Err
-returns-in-Err g c =
+pub returns-in_err-fit : goal.returns-in_err-fit
+returns-in_err-fit g c =
     let slots = c.args.slots in
     let x = asked (watch_questions slots) (read_table c.args.bytes.now) in
     let old = state c.args.self.now in
@@ -43,11 +44,12 @@ returns-in-Err g c =
     let calls = c.args.calls.now in
     let S = c.args.answers.now in
     let n = min (length calls) (length S) in
-    let f = c.in-Err.refusal in
-    let fine = sym c.in-Err.is ∙ c.fit.ensures.answer in
+    let f = c.in_err-fit.field-0.0 in
+    let fine = sym c.in_err-fit.was ∙ c.fit.ensures.answer in
     let whole = bad_played x slots old st es f (take n calls) fine in
+    let back : c.from_residual.result ≡ Err f = search rules in
     record {
-      answer = bad_run x slots old st es f n fine;
+      answer = back ∙ bad_run x slots old st es f n fine;
       state = bad_state x slots old st es f fine c.fit.ensures.state ∙ ap (λ (p : Played). p.state) whole;
       entries = ap (λ (p : Played). p.rest) whole;
       answers = ap (λ (p : Played). onto p.answers S) whole;
