@@ -9,7 +9,7 @@ ghost use Rattle.watch.specs.States.{conditions, state, taken_over};
 
 use crate::arrival::Arrival;
 use crate::fill::{among, fill};
-use crate::fronts::{put_conditions, put_points};
+use crate::fronts::put_front;
 use crate::naming::gap_from;
 use crate::treating::treat_with;
 use crate::watch::Watch;
@@ -33,10 +33,7 @@ fn fill_after(
     ensures fresh { fresh.new ≡ onto (filled (records rule.now) arrival.now.sample.letters arrival.now.gap (conditions newest (components (records rule.now)) values.now) (length (records rule.now))).values fresh.old }
     ensures becomes { becomes.new ≡ onto (filled (records rule.now) arrival.now.sample.letters arrival.now.gap (conditions newest (components (records rule.now)) values.now) (length (records rule.now))).becomes becomes.old }
 {
-    let known = match newest {
-        Some(_) => rule.components(),
-        None => 0,
-    };
+    let known = newest.map_or(0, |_| rule.components());
     fill(rule, arrival, &values[0..known], fresh, becomes);
 }
 
@@ -56,7 +53,7 @@ fn save(needed: bool, saved: &mut [HeldPoint], held: &[HeldPoint], count: usize)
     ensures { needed ≡ true → saved.new ≡ onto (take count held.now) saved.old }
 {
     if needed {
-        put_points(saved, held, count);
+        put_front(saved, held, count);
     }
 }
 
@@ -68,7 +65,7 @@ impl Watch {
         ensures { state self.new ≡ taken_over self.old point count }
     {
         let n = self.rule.components();
-        put_conditions(&mut self.values, &self.fresh, n);
+        put_front(&mut self.values, &self.fresh, n);
         self.drawn += 1;
         self.accepted += 1;
         self.newest = Some(point);
@@ -107,7 +104,7 @@ impl Watch {
         let new = HeldPoint { point, condition };
         let treatment = treat_with(&mut self.held, count, &self.becomes, waits, new, tray);
         if treatment.count > self.slots {
-            put_points(&mut self.held, &self.saved, count);
+            put_front(&mut self.held, &self.saved, count);
             self.turn_away();
             return Err(DrawRefusal::Slots { place });
         }

@@ -2,7 +2,7 @@
 use logic::{DrawRefusal, Point};
 
 // A draw with a tray of so many lines, or a read-out.
-#[derive(Clone, Copy)]
+#[derive(Clone, Copy, PartialEq, Eq, Debug)]
 pub enum Call {
     Draw(usize),
     Drawn,
@@ -13,7 +13,7 @@ pub enum Call {
 }
 
 // What a call answers: a draw, a count, or the name of a held point.
-#[derive(Clone, Copy)]
+#[derive(Clone, Copy, PartialEq, Eq, Debug)]
 pub enum Answer {
     Draw(Result<usize, DrawRefusal>),
     Count(usize),

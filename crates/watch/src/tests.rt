@@ -1,7 +1,7 @@
 // The watch on examples.
 use crate::{Answer, Call, Watch};
 use feed::{Feed, RecordFeed};
-use logic::{Line, Point};
+use logic::{DrawRefusal, Line, Point};
 use std::process::Abort;
 
 // True until, within a minute, letter 0.
@@ -12,15 +12,18 @@ const NOWHERE: Point = Point {
     offset: 0,
 };
 
-// The number of lines of each draw, or 100 and more for a refusal, by its number.
-fn plays(rt: &impl Abort, watch: &mut Watch, card: &[u8], want: &[usize], tray: &mut [Line]) {
+// The number of lines of each draw, or the number of a refusal.
+fn plays(
+    rt: &impl Abort,
+    watch: &mut Watch,
+    card: &[u8],
+    want: &[Result<usize, u8>],
+    tray: &mut [Line],
+) {
     let mut feed = RecordFeed::new(card);
-    for n in want {
-        let answer = match watch.draw(&mut feed, tray) {
-            Ok(lines) => lines,
-            Err(refusal) => 100 + refusal.number() as usize,
-        };
-        assert_eq!(rt; answer, *n);
+    for answer in want {
+        let drawn = watch.draw(&mut feed, tray).map_err(DrawRefusal::number);
+        assert_eq!(rt; drawn, *answer);
     }
 }
 
@@ -37,21 +40,28 @@ fn within_a_minute(rt: HostRuntime) {
         &rt,
         &mut watch,
         &card,
-        &[0, 1, 0, 3, 125, 0, 124, 123],
+        &[
+            Ok(0),
+            Ok(1),
+            Ok(0),
+            Ok(3),
+            Err(25),
+            Ok(0),
+            Err(24),
+            Err(23),
+        ],
         &mut tray,
     );
-    assert!(rt;
-        matches!(
-            watch.held_point(0),
-            Some(Point {
-                stamp: 13,
-                offset: 0
-            })
-        )
-    );
-    assert!(rt; watch.held_point(1).is_none());
-    assert!(rt; watch.drawn() == 7 && watch.accepted() == 5);
-    assert!(rt; watch.turned_away() == 2 && watch.held() == 1);
+    let held = Point {
+        stamp: 13,
+        offset: 0,
+    };
+    assert_eq!(rt; watch.held_point(0), Some(held));
+    assert_eq!(rt; watch.held_point(1), None);
+    assert_eq!(rt; watch.drawn(), 7);
+    assert_eq!(rt; watch.accepted(), 5);
+    assert_eq!(rt; watch.turned_away(), 2);
+    assert_eq!(rt; watch.held(), 1);
 }
 
 #[test]
@@ -60,10 +70,10 @@ fn one_slot_and_short_trays(rt: HostRuntime) {
     assert!(rt; watch.fit(&WITHIN_A_MINUTE, 1).is_ok());
     let card = [10, 0, 0, 0, 0, 0, 11, 0, 0, 0, 0, 0, 12, 0, 0, 0, 1, 0];
     let mut tray = [Line::True(NOWHERE); 2];
-    plays(&rt, &mut watch, &card, &[0, 127], &mut tray);
+    plays(&rt, &mut watch, &card, &[Ok(0), Err(27)], &mut tray);
     let mut short = [Line::True(NOWHERE); 1];
-    plays(&rt, &mut watch, &card, &[122], &mut short);
-    plays(&rt, &mut watch, &card[12..], &[2, 123], &mut tray);
+    plays(&rt, &mut watch, &card, &[Err(22)], &mut short);
+    plays(&rt, &mut watch, &card[12..], &[Ok(2), Err(23)], &mut tray);
     assert!(rt; matches!(tray[0], Line::False(_)) && matches!(tray[1], Line::True(_)));
 }
 
@@ -85,15 +95,15 @@ fn a_run_of_calls(rt: HostRuntime) {
     ];
     let mut answers = [Answer::Count(7); 8];
     let made = watch.run(&WITHIN_A_MINUTE, 1, &mut feed, &calls, &mut answers);
-    assert!(rt; matches!(made, Ok(8)));
-    assert!(rt; matches!(answers[0], Answer::Draw(Ok(0))));
-    assert!(rt; matches!(answers[1], Answer::Draw(Ok(1))));
-    assert!(rt; matches!(answers[2], Answer::Count(1)));
+    assert_eq!(rt; made, Ok(8));
+    assert_eq!(rt; answers[0], Answer::Draw(Ok(0)));
+    assert_eq!(rt; answers[1], Answer::Draw(Ok(1)));
+    assert_eq!(rt; answers[2], Answer::Count(1));
     assert!(rt; matches!(answers[3], Answer::Point(Some(_))));
-    assert!(rt; matches!(answers[4], Answer::Point(None)));
+    assert_eq!(rt; answers[4], Answer::Point(None));
     assert!(rt; matches!(answers[5], Answer::Draw(Err(_))));
     assert!(rt; matches!(answers[6], Answer::Draw(Err(_))));
-    assert!(rt; matches!(answers[7], Answer::Count(2)));
+    assert_eq!(rt; answers[7], Answer::Count(2));
 }
 
 #[test]
@@ -109,5 +119,5 @@ fn a_refused_run(rt: HostRuntime) {
         &mut answers,
     );
     assert!(rt; made.is_err());
-    assert!(rt; matches!(answers[0], Answer::Count(7)));
+    assert_eq!(rt; answers[0], Answer::Count(7));
 }

@@ -1,7 +1,7 @@
 // A draw treats points in turn: each is settled, joined to one that is held, or held.
 ghost use Rattle.std.specs.Prelude.{◌≡◌, ◌+◌, ◌<◌, ◌≤◌, [], ◌∷◌, ◌++◌, length, take};
 ghost use Rattle.feed.specs.Lists.{onto};
-ghost use Rattle.logic.specs.Draws.{alike, carried_points, found, treated_all};
+ghost use Rattle.logic.specs.Draws.{carried_points, found, treated_all};
 ghost use Rattle.watch.specs.Treatments.{untreated, verdict_on};
 
 use crate::carrying::carry_all;
@@ -9,23 +9,13 @@ use crate::treatment::Treatment;
 use logic::{HeldPoint, Line, Point};
 use truth::{Condition, Truth};
 
-// Whether two conditions are the same.
-fn are_alike(a: &Condition, b: &Condition) -> bool
-    ensures { result ≡ alike a.now b.now }
-{
-    a.same(b)
-}
-
 // The held point that has the condition, if there is one.
 fn find(held: &[HeldPoint], condition: &Condition) -> Option<Point>
     ensures { result ≡ found condition.now held.now }
 {
-    for i in 0..held.len() {
-        if are_alike(condition, &held[i].condition) {
-            return Some(held[i].point);
-        }
-    }
-    None
+    held.iter()
+        .find(|held| condition.same(&held.condition))
+        .map(|held| held.point)
 }
 
 // What is said of a point beside those that are held; none where it is held too.
@@ -38,13 +28,10 @@ fn verdict_on(point: &HeldPoint, held: &[HeldPoint]) -> Option<Line>
     if point.condition.is_never() {
         return Some(Line::False(point.point));
     }
-    match find(held, &point.condition) {
-        Some(earlier) => Some(Line::Joined {
-            later: point.point,
-            earlier,
-        }),
-        None => None,
-    }
+    find(held, &point.condition).map(|earlier| Line::Joined {
+        later: point.point,
+        earlier,
+    })
 }
 
 // Treats points in turn. Those that stay held go to the front of the points, and the lines to the front of the tray.

@@ -1,5 +1,5 @@
 -- By the tests of the condition.
-use Rattle.std.proofs.Common.{true, false, cond, Some, sym, ap, ◌∙◌, ap₂}
+use Rattle.std.proofs.Common.{◌≡◌, true, false, cond, Some, sym, ap, ◌∙◌, ap₂, rules}
 use Rattle.truth.specs.Tables.{openly}
 use Rattle.logic.specs.declared.verdict.Line.TheVariants.{True, False}
 use Rattle.logic.specs.Draws.{alike, found}
@@ -20,18 +20,11 @@ returns-then-is_never c =
     ap₂ (λ a b. cond a (Some (True h.point)) (cond b (Some (False h.point)) o))
     (alike_is h.condition openly.always false c.if-is_always.ensures) (alike_is h.condition openly.never true c.if-is_never.ensures)
 
-pub returns-in-Some : goal.returns-in-Some
-returns-in-Some c =
+pub returns : goal.returns
+returns c =
     let h = c.args.point.now in
     let o = joined_to h (found h.condition c.args.held.now) in
-    ap (joined_to h) c.in-Some.ensures
-    ∙ ap₂ (λ a b. cond a (Some (True h.point)) (cond b (Some (False h.point)) o))
-    (alike_is h.condition openly.always false c.if-is_always.ensures) (alike_is h.condition openly.never false c.if-is_never.ensures)
-
-pub returns-in-None : goal.returns-in-None
-returns-in-None c =
-    let h = c.args.point.now in
-    let o = joined_to h (found h.condition c.args.held.now) in
-    ap (joined_to h) c.in-None.ensures
+    let joined : c.map.result ≡ joined_to h c.find.result = search rules in
+    joined ∙ ap (joined_to h) c.find.ensures
     ∙ ap₂ (λ a b. cond a (Some (True h.point)) (cond b (Some (False h.point)) o))
     (alike_is h.condition openly.always false c.if-is_always.ensures) (alike_is h.condition openly.never false c.if-is_never.ensures)

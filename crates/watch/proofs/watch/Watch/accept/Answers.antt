@@ -44,8 +44,8 @@ returns-then-treatment-self c =
     let saved = c.save.ensures (eq-eqb n w.slots full) in
     let here : length (take n w.held) ≡ n = length-take-le n w.held (omega arith) in
     let there = c.save.auto.saved in
-    let back : take n c.put_points.new.to ≡ take n w.held =
-    ap (take n) c.put_points.ensures ∙ take_onto (take n c.save.new.saved) table n (length-take-le n c.save.new.saved (omega arith))
+    let back : take n c.put_front.new.to ≡ take n w.held =
+    ap (take n) c.put_front.ensures ∙ take_onto (take n c.save.new.saved) table n (length-take-le n c.save.new.saved (omega arith))
     ∙ ap (take n) saved ∙ take_onto (take n w.held) w.saved n here in
     let with-held : List HeldPoint → State = λ hs. record {
       table = st.table;

@@ -27,4 +27,4 @@ returns c =
       values = vs;
       held = take c.args.count w.held;
     } in
-    ap made (ap (take m) c.put_conditions.ensures ∙ take_onto (take n w.fresh) _ m (length-take-le n w.fresh (omega arith) ∙ is) ∙ ap (λ k. take k w.fresh) is)
+    ap made (ap (take m) c.put_front.ensures ∙ take_onto (take n w.fresh) _ m (length-take-le n w.fresh (omega arith) ∙ is) ∙ ap (λ k. take k w.fresh) is)
