@@ -1,5 +1,5 @@
 -- One point more of those that a draw treats.
-use Rattle.std.proofs.Common.{◌≡◌, ℕ, ◌+◌, ◌<◌, ◌≤◌, Bool, true, false, cond, List, [], ◌∷◌, ◌++◌, length, get_or, take, drop, set, Some, None, Option, sym, refl, ap, ◌∙◌, subst, ap₂, add-zero, arith}
+use Rattle.std.proofs.Common.{◌≡◌, ℕ, ◌+◌, ◌-◌, ◌<◌, ◌≤◌, Bool, true, false, cond, List, [], ◌∷◌, ◌++◌, length, get_or, take, drop, set, Some, None, Option, sym, refl, ap, ◌∙◌, subst, ap₂, add-zero, arith}
 use Rattle.std.proofs.lemmas.List.{drop-drop, drop-set-lt, get_or-drop, length_push, length-set, take_all, take_at, take_more, take_more_set}
 use Rattle.feed.specs.Lists.{onto}
 use Rattle.feed.proofs.Onto.{onto_more}
@@ -35,16 +35,15 @@ treated_push t [] x = refl
 treated_push t (y ∷ xs) x = treated_push (treated t y) xs x
 
 -- the first i of the points xs are treated: those that stay held are the first of P, and the lines are the first of R
-pub record Progress (xs : List HeldPoint) (S : List Line) (i : ℕ) (P : List HeldPoint) (R : List Line) (count given : ℕ) : Type 0 where
+pub record Progress (xs : List HeldPoint) (S : List Line) (i : ℕ) (P : List HeldPoint) (R : List Line) (count : ℕ) : Type 0 where
   pub long : length P ≡ length xs
   pub room : length R ≡ length S
-  pub sum : count + given ≡ i
-  pub lines : given ≡ length (treated_all untreated (take i xs)).lines
+  pub sum : count + length (treated_all untreated (take i xs)).lines ≡ i
   pub held : take count P ≡ (treated_all untreated (take i xs)).held
   pub rest : drop i P ≡ drop i xs
   pub tray : R ≡ onto (treated_all untreated (take i xs)).lines S
 
-module _ (xs : List HeldPoint) (S : List Line) (i : ℕ) (P : List HeldPoint) (R : List Line) (count given : ℕ) (p : Progress xs S i P R count given)
+module _ (xs : List HeldPoint) (S : List Line) (i : ℕ) (P : List HeldPoint) (R : List Line) (count : ℕ) (p : Progress xs S i P R count)
     (lt : i < length xs) (space : length xs ≤ length S) (d : HeldPoint) where
   abbrev now : Treated
   now = treated_all untreated (take i xs)
@@ -67,33 +66,34 @@ module _ (xs : List HeldPoint) (S : List Line) (i : ℕ) (P : List HeldPoint) (R
   rest_on : drop (i + 1) P ≡ drop (i + 1) xs
   rest_on = sym (drop-drop 1 i P) ∙ ap (drop 1) p.rest ∙ drop-drop 1 i xs
 
-  pub said_on : (l : Line) → Some l ≡ verdict_on (take count P) (get_or P i d) → Progress xs S (i + 1) P (set R given l) count (given + 1)
+  pub said_on : (l : Line) → Some l ≡ verdict_on (take count P) (get_or P i d) → Progress xs S (i + 1) P (set R (i - count) l) count
   said_on l e =
       let step = stepped (Some l) e in
-      let before = p.lines in
       let sum = p.sum in
+      let given : length now.lines ≡ i - count = omega arith in
+      let more = length_push now.lines l in
+      let lines = ap (λ (t : Treated). length t.lines) step in
       record {
         long = p.long;
-        room = length-set R given l ∙ p.room;
+        room = length-set R (i - count) l ∙ p.room;
         sum = omega arith;
-        lines = ap (λ n. n + 1) p.lines ∙ sym (length_push now.lines l) ∙ sym (ap (λ (t : Treated). length t.lines) step);
         held = p.held ∙ sym (ap (λ (t : Treated). t.held) step);
         rest = rest_on;
         tray =
-            ap (λ x. set x given l) p.tray ∙ onto_more now.lines S given l (sym p.lines) (omega arith)
+            ap (λ x. set x (i - count) l) p.tray ∙ onto_more now.lines S (i - count) l given (omega arith)
             ∙ sym (ap (λ (t : Treated). onto t.lines S) step);
       }
 
-  pub held_on : None ≡ verdict_on (take count P) (get_or P i d) → Progress xs S (i + 1) (set P count (get_or P i d)) R (count + 1) given
+  pub held_on : None ≡ verdict_on (take count P) (get_or P i d) → Progress xs S (i + 1) (set P count (get_or P i d)) R (count + 1)
   held_on e =
       let step = stepped None e in
       let sum = p.sum in
       let long = p.long in
+      let lines = ap (λ (t : Treated). length t.lines) step in
       record {
         long = length-set P count (get_or P i d) ∙ p.long;
         room = p.room;
         sum = omega arith;
-        lines = p.lines ∙ sym (ap (λ (t : Treated). length t.lines) step);
         held =
             take_more_set P count (get_or P i d) (omega arith) ∙ ap (λ l. l ++ (get_or P i d ∷ [])) p.held
             ∙ sym (ap (λ (t : Treated). t.held) step);
@@ -102,24 +102,21 @@ module _ (xs : List HeldPoint) (S : List Line) (i : ℕ) (P : List HeldPoint) (R
       }
 
 -- the same progress in other words
-pub progress_as : (xs : List HeldPoint) (S : List Line) (i : ℕ) (P P' : List HeldPoint) (R R' : List Line) (count count' given given' : ℕ) →
-    Progress xs S i P R count given → P' ≡ P → R' ≡ R → count' ≡ count → given' ≡ given → Progress xs S i P' R' count' given'
-progress_as xs S i P P' R R' count count' given given' p e f g h =
-    subst (λ x. Progress xs S i x R' count' given') (sym e)
-    (subst (λ x. Progress xs S i P x count' given') (sym f)
-    (subst (λ x. Progress xs S i P R x given') (sym g)
-    (subst (λ x. Progress xs S i P R count x) (sym h) p)))
+pub progress_as : (xs : List HeldPoint) (S : List Line) (i : ℕ) (P P' : List HeldPoint) (R R' : List Line) (count count' : ℕ) →
+    Progress xs S i P R count → P' ≡ P → R' ≡ R → count' ≡ count → Progress xs S i P' R' count'
+progress_as xs S i P P' R R' count count' p e f g =
+    subst (λ x. Progress xs S i x R' count') (sym e)
+    (subst (λ x. Progress xs S i P x count') (sym f)
+    (subst (λ x. Progress xs S i P R x) (sym g) p))
 
-pub progress_none : (xs : List HeldPoint) (S : List Line) → Progress xs S 0 xs S 0 0
-progress_none xs S = record { long = refl; room = refl; sum = refl; lines = refl; held = refl; rest = refl; tray = refl }
+pub progress_none : (xs : List HeldPoint) (S : List Line) → Progress xs S 0 xs S 0
+progress_none xs S = record { long = refl; room = refl; sum = refl; held = refl; rest = refl; tray = refl }
 
 -- all points are treated
 pub all_of : (xs : List HeldPoint) (i : ℕ) → length xs ≤ i → treated_all untreated (take i xs) ≡ treated_all untreated xs
 all_of xs i h = ap (treated_all untreated) (take_all i xs h)
 
 -- the points that are treated: those that were carried, at the front of a table, and then the new one
-pub with_new : (C rest ys : List HeldPoint) (n m : ℕ) (new : HeldPoint) → C ≡ ys → length C ≡ n → n < length (C ++ rest) → m ≡ n + 1
-    → take m (set (C ++ rest) n new) ≡ ys ++ (new ∷ [])
-with_new C rest ys n m new e long lt is =
-    ap (λ k. take k (set (C ++ rest) n new)) is ∙ take_more_set (C ++ rest) n new lt
-    ∙ ap (λ l. l ++ (new ∷ [])) (take_at C rest n long ∙ e)
+pub with_new : (C rest ys : List HeldPoint) (n : ℕ) (new : HeldPoint) → C ≡ ys → length C ≡ n → n < length (C ++ rest)
+    → take (n + 1) (set (C ++ rest) n new) ≡ ys ++ (new ∷ [])
+with_new C rest ys n new e long lt = take_more_set (C ++ rest) n new lt ∙ ap (λ l. l ++ (new ∷ [])) (take_at C rest n long ∙ e)

@@ -3,6 +3,7 @@ use Rattle.std.specs.Prelude.{ℕ, ◌+◌, List, [], take, Some, None, Option}
 use Rattle.truth.specs.declared.table.Condition.{Condition}
 use Rattle.rule.specs.Components.{components}
 use Rattle.rule.specs.Reading.{records}
+use Rattle.logic.specs.declared.verdict.HeldPoint.{HeldPoint}
 use Rattle.logic.specs.declared.verdict.Point.{Point}
 use Rattle.logic.specs.States.{State}
 use Rattle.watch.specs.declared.watch.Watch.{Watch}
@@ -25,15 +26,28 @@ state w = record {
   held = take w.count w.held;
 }
 
--- what a watch holds that has taken over a new point, with the conditions there and so many held points
-abbrev pub taken_over : Watch → Point → ℕ → State
-taken_over w p count = record {
-  table = records w.rule;
-  slots = w.slots;
-  drawn = w.drawn + 1;
-  accepted = w.accepted + 1;
-  turned = w.turned_away;
-  newest = Some p;
-  values = take (components (records w.rule)) w.fresh;
-  held = take count w.held;
+-- a state with one entry more drawn and accepted
+abbrev pub counted : State → State
+counted st = record {
+  table = st.table;
+  slots = st.slots;
+  drawn = st.drawn + 1;
+  accepted = st.accepted + 1;
+  turned = st.turned;
+  newest = st.newest;
+  values = st.values;
+  held = st.held;
+}
+
+-- a state with other held points
+abbrev pub with_held : State → List HeldPoint → State
+with_held st hs = record {
+  table = st.table;
+  slots = st.slots;
+  drawn = st.drawn;
+  accepted = st.accepted;
+  turned = st.turned;
+  newest = st.newest;
+  values = st.values;
+  held = hs;
 }

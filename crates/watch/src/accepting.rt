@@ -1,11 +1,14 @@
 // A sample is accepted as a new point, with all that follows.
-ghost use Rattle.std.specs.Prelude.{◌≡◌, ◌-◌, ◌^◌, ◌<◌, ◌≤◌, true, List, length, take};
+ghost use Rattle.std.specs.Prelude.{◌≡◌, ℕ, ◌+◌, ◌<◌, ◌≤◌, true, List, length, take, MatchOption};
+ghost use Rattle.std.specs.Option.{ok_or};
 ghost use Rattle.feed.specs.Lists.{onto};
 ghost use Rattle.feed.specs.declared.entry.Entry.{Entry};
 ghost use Rattle.rule.specs.Components.{components, waits};
 ghost use Rattle.rule.specs.Reading.{records};
-ghost use Rattle.logic.specs.Draws.{filled, next_name, ruled, sampled};
-ghost use Rattle.watch.specs.States.{conditions, state, taken_over};
+ghost use Rattle.logic.specs.Draws.{filled, filled_at, next_name, ruled, sampled, treatment};
+ghost use Rattle.logic.specs.declared.refusal.DrawRefusal.TheVariants.{Slots};
+ghost use Rattle.logic.specs.declared.verdict.HeldPoint.{HeldPoint};
+ghost use Rattle.watch.specs.States.{conditions, counted, state, with_held};
 
 use crate::arrival::Arrival;
 use crate::fill::{among, fill};
@@ -14,7 +17,7 @@ use crate::naming::gap_from;
 use crate::treating::treat_with;
 use crate::watch::Watch;
 use feed::Sample;
-use logic::{DrawRefusal, HeldPoint, Line, Point};
+use logic::{HeldPoint, Line, Point};
 use rule::Rule;
 use truth::Condition;
 
@@ -58,34 +61,18 @@ fn save(needed: bool, saved: &mut [HeldPoint], held: &[HeldPoint], count: usize)
 }
 
 impl Watch {
-    // Takes over what follows from one more point.
-    fn take_over(&mut self, point: Point, count: usize)
-        requires drawn { self.old.drawn < 2 ^ 32 - 1 }
-        requires slots { count ≤ self.old.slots }
-        ensures { state self.new ≡ taken_over self.old point count }
-    {
-        let n = self.rule.components();
-        put_front(&mut self.values, &self.fresh, n);
-        self.drawn += 1;
-        self.accepted += 1;
-        self.newest = Some(point);
-        self.count = count;
-    }
-
-    // Accepts a sample as the new point, unless more points would be held than there are slots.
-    pub(crate) fn accept(
-        &mut self,
-        place: u64,
-        sample: Sample,
-        point: Point,
-        tray: &mut [Line],
-    ) -> Result<usize, DrawRefusal>
-        requires drawn { self.old.drawn < 2 ^ 32 - 1 }
+    // Fills in the conditions at the new point of a sample, and treats the held points, carried there, and then the new point.
+    // The answer is how many stay held. The held points are saved before, where as many are held as there are slots.
+    fn treat_sample(&mut self, sample: Sample, point: Point, tray: &mut [Line]) -> usize
         requires tray { self.old.count < length tray.old }
         requires point { point ≡ next_name self.old.newest sample.stamp }
-        ensures answer { (es : List Entry) → result ≡ (sampled (state self.old) es place sample).answer }
-        ensures state { (es : List Entry) → state self.new ≡ (sampled (state self.old) es place sample).state }
-        ensures tray { (es : List Entry) → tray.new ≡ onto (sampled (state self.old) es place sample).lines tray.old }
+        ensures held { take result self.new.held ≡ (treatment (state self.old) sample (filled_at (state self.old) sample)).held }
+        ensures lines { tray.new ≡ onto (treatment (state self.old) sample (filled_at (state self.old) sample)).lines tray.old }
+        ensures sum { result + length (treatment (state self.old) sample (filled_at (state self.old) sample)).lines ≡ self.old.count + 1 }
+        ensures values { take (components (records self.old.rule)) self.new.fresh ≡ (filled_at (state self.old) sample).values }
+        ensures saved { self.old.count ≡ self.old.slots → take self.old.count self.new.saved ≡ take self.old.count self.old.held }
+        ensures count { self.new.count ≡ self.old.count }
+        ensures others { (hs : List HeldPoint) → with_held (state self.new) hs ≡ with_held (state self.old) hs }
     {
         self.arrival
             .renew(sample, gap_from(self.newest, sample.stamp));
@@ -98,17 +85,38 @@ impl Watch {
             &mut self.becomes,
         );
         let condition = ruled(&self.rule, &self.fresh);
+        let new = HeldPoint { point, condition };
         let waits = self.rule.waits();
         let count = self.count;
         save(count == self.slots, &mut self.saved, &self.held, count);
-        let new = HeldPoint { point, condition };
-        let treatment = treat_with(&mut self.held, count, &self.becomes, waits, new, tray);
-        if treatment.count > self.slots {
-            put_front(&mut self.held, &self.saved, count);
-            self.turn_away();
-            return Err(DrawRefusal::Slots { place });
+        treat_with(&mut self.held, count, &self.becomes, waits, new, tray)
+    }
+
+    // Accepts a sample as the new point, and answers the number of lines; none, and all that is held stays, where more points
+    // would be held than there are slots.
+    pub(crate) fn accept(
+        &mut self,
+        sample: Sample,
+        point: Point,
+        tray: &mut [Line],
+    ) -> Option<usize>
+        requires tray { self.old.count < length tray.old }
+        requires point { point ≡ next_name self.old.newest sample.stamp }
+        ensures answer { (es : List Entry) (place : ℕ) → ok_or result (Slots place) ≡ (sampled (state self.old) es place sample).answer }
+        ensures state { (es : List Entry) (place : ℕ) → MatchOption result (state self.new ≡ state self.old) (λ lines. counted (state self.new) ≡ (sampled (state self.old) es place sample).state) }
+        ensures tray { (es : List Entry) (place : ℕ) → tray.new ≡ onto (sampled (state self.old) es place sample).lines tray.old }
+        ensures drawn { self.new.drawn ≡ self.old.drawn }
+    {
+        let before = self.count;
+        let count = self.treat_sample(sample, point, tray);
+        if count > self.slots {
+            put_front(&mut self.held, &self.saved, before);
+            return None;
         }
-        self.take_over(point, treatment.count);
-        Ok(treatment.given)
+        let n = self.rule.components();
+        put_front(&mut self.values, &self.fresh, n);
+        self.newest = Some(point);
+        self.count = count;
+        Some(before + 1 - count)
     }
 }

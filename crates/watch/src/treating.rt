@@ -5,7 +5,6 @@ ghost use Rattle.logic.specs.Draws.{carried_points, found, treated_all};
 ghost use Rattle.watch.specs.Treatments.{untreated, verdict_on};
 
 use crate::carrying::carry_all;
-use crate::treatment::Treatment;
 use logic::{HeldPoint, Line, Point};
 use truth::{Condition, Truth};
 
@@ -34,33 +33,29 @@ fn verdict_on(point: &HeldPoint, held: &[HeldPoint]) -> Option<Line>
     })
 }
 
-// Treats points in turn. Those that stay held go to the front of the points, and the lines to the front of the tray.
-fn treat_all(points: &mut [HeldPoint], tray: &mut [Line]) -> Treatment
+// Treats points in turn, and answers how many stay held. Those go to the front of the points, and the lines of the others to
+// the front of the tray. All is done in place, since a table of conditions is too big to be copied.
+fn treat_all(points: &mut [HeldPoint], tray: &mut [Line]) -> usize
     requires { length points.old ≤ length tray.old }
-    ensures held { take result.count points.new ≡ (treated_all untreated points.old).held }
+    ensures held { take result points.new ≡ (treated_all untreated points.old).held }
     ensures lines { tray.new ≡ onto (treated_all untreated points.old).lines tray.old }
-    ensures given { result.given ≡ length (treated_all untreated points.old).lines }
-    ensures sum { result.count + result.given ≡ length points.old }
+    ensures sum { result + length (treated_all untreated points.old).lines ≡ length points.old }
 {
     let mut count = 0;
-    let mut given = 0;
     for i in 0..points.len() {
         match verdict_on(&points[i], &points[0..count]) {
-            Some(line) => {
-                tray[given] = line;
-                given += 1;
-            }
+            Some(line) => tray[i - count] = line,
             None => {
                 points[count] = points[i];
                 count += 1;
             }
         }
     }
-    Treatment { count, given }
+    count
 }
 
 // The first `count` points of a table, carried by what the first `waits` waits become, and then the new point, are each
-// treated once.
+// treated once. The answer is how many stay held.
 pub(crate) fn treat_with(
     held: &mut [HeldPoint],
     count: usize,
@@ -68,16 +63,15 @@ pub(crate) fn treat_with(
     waits: usize,
     new: HeldPoint,
     tray: &mut [Line],
-) -> Treatment
+) -> usize
     requires waits { waits ≤ length becomes.now }
     requires room { count < length held.old }
     requires tray { count < length tray.old }
-    ensures held { take result.count held.new ≡ (treated_all untreated (carried_points (take waits becomes.now) (take count held.old) ++ (new ∷ []))).held }
+    ensures held { take result held.new ≡ (treated_all untreated (carried_points (take waits becomes.now) (take count held.old) ++ (new ∷ []))).held }
     ensures lines { tray.new ≡ onto (treated_all untreated (carried_points (take waits becomes.now) (take count held.old) ++ (new ∷ []))).lines tray.old }
-    ensures given { result.given ≡ length (treated_all untreated (carried_points (take waits becomes.now) (take count held.old) ++ (new ∷ []))).lines }
-    ensures sum { result.count + result.given ≡ count + 1 }
+    ensures sum { result + length (treated_all untreated (carried_points (take waits becomes.now) (take count held.old) ++ (new ∷ []))).lines ≡ count + 1 }
 {
-    carry_all(&mut held[0..count], &becomes[0..waits]);
+    carry_all(&mut held[..count], &becomes[..waits]);
     held[count] = new;
-    treat_all(&mut held[0..count + 1], tray)
+    treat_all(&mut held[..=count], tray)
 }

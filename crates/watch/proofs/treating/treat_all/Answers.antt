@@ -21,17 +21,18 @@ loop-i-preserved c =
     let i = c.loop-i.i in
     let P = c.loop-i.points in
     let R = c.loop-i.tray in
+    let n = c.loop-i.count in
     let p = c.loop-i.invariant in
     let long = p.long in
     let lt : i < length xs = omega arith in
     let room = c.requires in
     let d : HeldPoint = c.index-points-i.result in
-    let whole = ap₂ (λ n h. verdict_on (take n P) h) (sub-zero c.loop-i.count) c.index-points-i.is in
+    let whole = ap₂ (λ k h. verdict_on (take k P) h) (sub-zero n) c.index-points-i.is in
     elim c.match-verdict_on.branch [
-      | in-Some w ↦ progress_as xs S (i + 1) _ _ _ _ _ _ _ _ (said_on xs S i P R c.loop-i.count c.loop-i.given p lt room d w.in-Some.line (let e : Some w.in-Some.line ≡ verdict_on (take (c.loop-i.count - 0) P) d = w.in-Some.ensures in e ∙ whole))
-          w.points-is w.tray-is w.count-is w.given-is
-      | in-None w ↦ progress_as xs S (i + 1) _ _ _ _ _ _ _ _ (held_on xs S i P R c.loop-i.count c.loop-i.given p lt room d (let e : ◌≡◌ {A = Option Line} None (verdict_on (take (c.loop-i.count - 0) P) d) = w.in-None.ensures in e ∙ whole))
-          (w.points-is ∙ ap (set P c.loop-i.count) (get_or_read P i w.index-points-i-in-None.result (omega arith) w.index-points-i-in-None.is d)) w.tray-is w.count-is w.given-is
+      | in-Some w ↦ progress_as xs S (i + 1) _ _ _ _ _ _ (said_on xs S i P R n p lt room d w.in-Some.line (let e : Some w.in-Some.line ≡ verdict_on (take (n - 0) P) d = w.in-Some.ensures in e ∙ whole))
+          w.points-is w.tray-is w.count-is
+      | in-None w ↦ progress_as xs S (i + 1) _ _ _ _ _ _ (held_on xs S i P R n p lt room d (let e : ◌≡◌ {A = Option Line} None (verdict_on (take (n - 0) P) d) = w.in-None.ensures in e ∙ whole))
+          (w.points-is ∙ ap (set P n) (get_or_read P i w.index-points-i-in-None.result (omega arith) w.index-points-i-in-None.is d)) w.tray-is w.count-is
     ]
 
 pub returns : goal.returns
@@ -43,6 +44,5 @@ returns c =
     record {
       held = p.held ∙ ap (λ (t : Treated). t.held) done;
       lines = p.tray ∙ ap (λ (t : Treated). onto t.lines c.args.tray.now) done;
-      given = p.lines ∙ ap (λ (t : Treated). length t.lines) done;
-      sum = let last : c.loop-i.i ≡ length xs = omega (arith, p.long) in p.sum ∙ last;
+      sum = let last : c.loop-i.i ≡ length xs = omega (arith, p.long) in ap (λ (t : Treated). c.loop-i.count + length t.lines) (sym done) ∙ p.sum ∙ last;
     }

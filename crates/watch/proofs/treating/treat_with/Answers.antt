@@ -1,6 +1,5 @@
 -- The points that are treated.
 use Rattle.std.proofs.Common.{◌≡◌, ◌+◌, ◌-◌, ◌<◌, ◌≤◌, List, [], ◌∷◌, ◌++◌, length, take, drop, sym, ap, ◌∙◌, ap₂, arith}
-use native.Mathlib.Nat.{sub-zero}
 use Rattle.feed.specs.Lists.{onto}
 use Rattle.std.proofs.lemmas.List.{length-append, length-drop, length-map, length_push, length-take-le, take-append-le}
 use Rattle.logic.specs.declared.verdict.HeldPoint.{HeldPoint}
@@ -14,24 +13,23 @@ returns c =
     let held = c.args.held.now in
     let n = c.args.count in
     let new = c.args.new in
-    let ws = c.args.becomes.now in
-    let ys = carried_points (take c.args.waits ws) (take n held) in
+    let ys = carried_points (take c.args.waits c.args.becomes.now) (take n held) in
     let C = c.carry_all.new.points in
-    let rest = drop (n - 0) held in
+    let rest = drop n held in
     let T : List HeldPoint → Treated = treated_all untreated in
     let room = c.requires.room in
-    let carried : C ≡ ys = c.carry_all.ensures ∙ ap₂ (λ i j. carried_points (take i ws) (take j held)) (sub-zero c.args.waits) (sub-zero n) in
+    let carried : C ≡ ys = c.carry_all.ensures in
     let long : length C ≡ n = ap length carried ∙ length-map (take n held) _ ∙ length-take-le n held (omega arith) in
-    let behind = length-drop (n - 0) held in
+    let behind = length-drop n held in
     let whole = length-append C rest in
-    let is = with_new C rest ys n (n + 1 - 0) new carried long (omega arith) (sub-zero (n + 1)) in
+    let is = with_new C rest ys n new carried long (omega arith) in
     let size = ap length is ∙ length_push ys new in
     let same = ap length carried in
+    let more : length ys + 1 ≡ n + 1 = omega arith in
     let sum = c.treat_all.ensures.sum in
     let kept = c.treat_all.auto.points in
     record {
-      held = take-append-le c.treat_all.result.count c.treat_all.new.points _ (omega arith) ∙ c.treat_all.ensures.held ∙ ap (λ l. (T l).held) is;
+      held = take-append-le c.treat_all.result c.treat_all.new.points _ (omega arith) ∙ c.treat_all.ensures.held ∙ ap (λ l. (T l).held) is;
       lines = c.treat_all.ensures.lines ∙ ap (λ l. onto (T l).lines c.args.tray.now) is;
-      given = c.treat_all.ensures.given ∙ ap (λ l. length (T l).lines) is;
-      sum = omega arith;
+      sum = ap (λ l. c.treat_all.result + length (T l).lines) (sym is) ∙ c.treat_all.ensures.sum ∙ size ∙ more;
     }

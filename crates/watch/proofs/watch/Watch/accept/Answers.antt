@@ -1,7 +1,6 @@
--- The point is held or settled with the others, or turned away.
-use Rattle.std.proofs.Common.{◌≡◌, ◌+◌, ◌<◌, ◌≤◌, List, [], length, take, Some, Ok, sym, ap, ◌∙◌, ap₂, arith}
+-- The point is held or settled with the others, or all that was held stays.
+use Rattle.std.proofs.Common.{◌≡◌, ℕ, ◌+◌, ◌-◌, ◌<◌, ◌≤◌, List, [], length, take, Some, Ok, sym, ap, ◌∙◌, ap₂, arith}
 use Rattle.std.proofs.lemmas.List.{length-take-le}
-use Rattle.std.proofs.lemmas.Bool.{eq-eqb}
 use Rattle.feed.specs.Lists.{onto}
 use Rattle.feed.proofs.Onto.{take_onto}
 use Rattle.feed.specs.declared.entry.Entry.{Entry}
@@ -10,60 +9,43 @@ use Rattle.truth.specs.declared.table.Condition.{Condition}
 use Rattle.logic.specs.declared.verdict.HeldPoint.{HeldPoint}
 use Rattle.logic.specs.declared.verdict.Point.{Point}
 use Rattle.logic.specs.States.{State}
-use Rattle.logic.specs.Draws.{Drawn, Treated, filled_at, next_name, treatment, turned_state}
-use Rattle.watch.specs.States.{state}
-use Rattle.watch.proofs.Accepted.{no_elements, sampled_full, sampled_held, treated_is, values_are}
+use Rattle.logic.specs.Draws.{Drawn, filled_at, next_name, treatment}
+use Rattle.watch.specs.States.{state, with_held}
+use Rattle.watch.proofs.Accepted.{no_elements, sampled_full, sampled_held}
 use Rattle.watch.proofs.watch.Watch.accept.Goals as goal
 
-pub returns-then-treatment-self : goal.returns-then-treatment-self
-returns-then-treatment-self c =
+pub returns-then-count-self : goal.returns-then-count-self
+returns-then-count-self c =
     let w = c.args.self.now in
     let st = state w in
     let s = c.args.sample in
     let n = w.count in
-    let tray = c.args.tray.now in
     let T = treatment st s (filled_at st s) in
-    let a = c.renew.new.self in
-    let gap = c.renew.ensures.gap ∙ c.gap_from.ensures in
-    let made = treated_is w s a.sample a.gap c.renew.ensures.sample gap w.fresh w.becomes c.fill_after.new.fresh c.fill_after.new.becomes
-    c.fill_after.ensures.fresh c.fill_after.ensures.becomes c.waits-waits.result c.args.point c.ruled-condition.result c.waits-waits.ensures.value c.requires.point c.ruled-condition.ensures in
-    let r = c.treat_with-treatment.result in
-    let table = c.treat_with-treatment.new.held in
-    let kept = c.treat_with-treatment.auto.held in
-    let sum = c.treat_with-treatment.ensures.sum in
+    let r = c.treat_sample-count.result in
+    let v = c.treat_sample-count.new.self in
+    let same = c.treat_sample-count.ensures.others in
+    let slots : v.slots ≡ w.slots = ap (λ (x : State). x.slots) (same []) in
+    let sum = c.treat_sample-count.ensures.sum in
     let few = w.held_few in
     let low = w.slots_few in
-    let long = w.held_long in
-    let saved-long = w.saved_long in
-    let more = c.if-treatment-self.true in
-    let held = c.treat_with-treatment.ensures.held ∙ ap (λ (t : Treated). t.held) made in
-    let many = sym (ap length held) ∙ length-take-le r.count table (omega arith) in
+    let long = v.held_long in
+    let saved-long = v.saved_long in
+    let more = c.if-count-self.true in
+    let kept = ap length c.treat_sample-count.ensures.held in
+    let many = length-take-le r v.held (omega arith) in
     let full : n ≡ w.slots = omega arith in
-    let given = c.treat_with-treatment.ensures.given ∙ ap (λ (t : Treated). length t.lines) made in
     let silent : T.lines ≡ [] = no_elements T.lines (omega arith) in
-    let saved = c.save.ensures (eq-eqb n w.slots full) in
-    let here : length (take n w.held) ≡ n = length-take-le n w.held (omega arith) in
-    let there = c.save.auto.saved in
-    let back : take n c.put_front.new.to ≡ take n w.held =
-    ap (take n) c.put_front.ensures ∙ take_onto (take n c.save.new.saved) table n (length-take-le n c.save.new.saved (omega arith))
-    ∙ ap (take n) saved ∙ take_onto (take n w.held) w.saved n here in
-    let with-held : List HeldPoint → State = λ hs. record {
-      table = st.table;
-      slots = st.slots;
-      drawn = st.drawn;
-      accepted = st.accepted;
-      turned = st.turned;
-      newest = st.newest;
-      values = st.values;
-      held = hs;
-    } in
-    let step = λ (es : List Entry). sampled_full st es c.args.place s (omega arith) in
+    let back : take v.count c.put_front.new.to ≡ take n w.held =
+    ap (λ k. take k c.put_front.new.to) c.treat_sample-count.ensures.count ∙ ap (take n) c.put_front.ensures
+    ∙ take_onto (take n v.saved) v.held n (length-take-le n v.saved (omega arith)) ∙ c.treat_sample-count.ensures.saved full in
+    let step = λ (es : List Entry) (place : ℕ). sampled_full st es place s (omega arith) in
     record {
-      answer = λ es. sym (ap (λ (d : Drawn). d.answer) (step es));
-      state = λ es. c.turn_away.ensures ∙ ap (λ hs. turned_state (with-held hs)) back ∙ sym (ap (λ (d : Drawn). d.state) (step es));
-      tray = λ es.
-          c.treat_with-treatment.ensures.lines ∙ ap (λ (t : Treated). onto t.lines tray) made ∙ ap (λ l. onto l tray) silent
-          ∙ sym (ap (λ (d : Drawn). onto d.lines tray) (step es));
+      answer = λ es place. sym (ap (λ (d : Drawn). d.answer) (step es place));
+      state = λ es place. same (take v.count c.put_front.new.to) ∙ ap (with_held st) back;
+      tray = λ es place.
+          c.treat_sample-count.ensures.lines ∙ ap (λ l. onto l c.args.tray.now) silent
+          ∙ sym (ap (λ (d : Drawn). onto d.lines c.args.tray.now) (step es place));
+      drawn = ap (λ (x : State). x.drawn) (same []);
     }
 
 pub returns : goal.returns
@@ -71,42 +53,44 @@ returns c =
     let w = c.args.self.now in
     let st = state w in
     let s = c.args.sample in
-    let tray = c.args.tray.now in
-    let T = treatment st s (filled_at st s) in
-    let a = c.renew.new.self in
-    let gap = c.renew.ensures.gap ∙ c.gap_from.ensures in
-    let made = treated_is w s a.sample a.gap c.renew.ensures.sample gap w.fresh w.becomes c.fill_after.new.fresh c.fill_after.new.becomes
-    c.fill_after.ensures.fresh c.fill_after.ensures.becomes c.waits-waits.result c.args.point c.ruled-condition.result c.waits-waits.ensures.value c.requires.point c.ruled-condition.ensures in
-    let values = values_are w s a.sample a.gap c.renew.ensures.sample gap w.fresh w.becomes c.fill_after.new.fresh c.fill_after.new.becomes
-    c.fill_after.ensures.fresh c.fill_after.ensures.becomes in
-    let r = c.treat_with-treatment.result in
-    let table = c.treat_with-treatment.new.held in
-    let kept = c.treat_with-treatment.auto.held in
-    let sum = c.treat_with-treatment.ensures.sum in
+    let f = filled_at st s in
+    let r = c.treat_sample-count.result in
+    let v = c.treat_sample-count.new.self in
+    let same = c.treat_sample-count.ensures.others in
+    let slots : v.slots ≡ w.slots = ap (λ (x : State). x.slots) (same []) in
+    let sum = c.treat_sample-count.ensures.sum in
     let few = w.held_few in
     let low = w.slots_few in
-    let long = w.held_long in
-    let not_more = c.if-treatment-self.false in
-    let held : take r.count table ≡ T.held = c.treat_with-treatment.ensures.held ∙ ap (λ (t : Treated). t.held) made in
-    let many = sym (ap length held) ∙ length-take-le r.count table (omega arith) in
-    let given = c.treat_with-treatment.ensures.given ∙ ap (λ (t : Treated). length t.lines) made in
-    let after : Point → List Condition → List HeldPoint → State = λ p vs hs. record {
-      table = st.table;
-      slots = st.slots;
-      drawn = st.drawn + 1;
-      accepted = st.accepted + 1;
-      turned = st.turned;
+    let long = v.held_long in
+    let not_more = c.if-count-self.false in
+    let kept = ap length c.treat_sample-count.ensures.held in
+    let many = length-take-le r v.held (omega arith) in
+    let given : w.count + 1 - r ≡ length (treatment st s f).lines = omega arith in
+    let m = components st.table in
+    let k = c.components-n.result in
+    let is : k ≡ m = c.components-n.ensures.value ∙ ap (λ (x : State). components x.table) (same []) in
+    let width = v.few_components in
+    let fresh-long = v.fresh_long in
+    let values : take m c.put_front-2.new.to ≡ f.values =
+    ap (take m) c.put_front-2.ensures ∙ take_onto (take k v.fresh) v.values m (length-take-le k v.fresh (omega arith) ∙ is)
+    ∙ ap (λ j. take j v.fresh) is ∙ c.treat_sample-count.ensures.values in
+    let after : State → Point → List Condition → List HeldPoint → State = λ x p vs hs. record {
+      table = x.table;
+      slots = x.slots;
+      drawn = x.drawn + 1;
+      accepted = x.accepted + 1;
+      turned = x.turned;
       newest = Some p;
       values = vs;
       held = hs;
     } in
-    let step = λ (es : List Entry). sampled_held st es c.args.place s (omega arith) in
+    let step = λ (es : List Entry) (place : ℕ). sampled_held st es place s (omega arith) in
     record {
-      answer = λ es. ap Ok given ∙ sym (ap (λ (d : Drawn). d.answer) (step es));
-      state = λ es.
-          c.take_over.ensures ∙ ap (λ p. after p (take (components st.table) c.fill_after.new.fresh) (take r.count table)) c.requires.point
-          ∙ ap₂ (after (next_name w.newest s.stamp)) values held ∙ sym (ap (λ (d : Drawn). d.state) (step es));
-      tray = λ es.
-          c.treat_with-treatment.ensures.lines ∙ ap (λ (t : Treated). onto t.lines tray) made
-          ∙ sym (ap (λ (d : Drawn). onto d.lines tray) (step es));
+      answer = λ es place. ap Ok given ∙ sym (ap (λ (d : Drawn). d.answer) (step es place));
+      state = λ es place.
+          ap (λ (x : State). after x c.args.point (take (components x.table) c.put_front-2.new.to) (take r v.held)) (same [])
+          ∙ ap (λ p. after st p (take m c.put_front-2.new.to) (take r v.held)) c.requires.point
+          ∙ ap₂ (after st (next_name w.newest s.stamp)) values c.treat_sample-count.ensures.held ∙ sym (ap (λ (d : Drawn). d.state) (step es place));
+      tray = λ es place. c.treat_sample-count.ensures.lines ∙ sym (ap (λ (d : Drawn). onto d.lines c.args.tray.now) (step es place));
+      drawn = ap (λ (x : State). x.drawn) (same []);
     }
