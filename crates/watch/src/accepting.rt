@@ -37,7 +37,7 @@ fn fill_after(
     ensures becomes { becomes.new ≡ onto (filled (records rule.now) arrival.now.sample.letters arrival.now.gap (conditions newest (components (records rule.now)) values.now) (length (records rule.now))).becomes becomes.old }
 {
     let known = newest.map_or(0, |_| rule.components());
-    fill(rule, arrival, &values[0..known], fresh, becomes);
+    fill(rule, arrival, &values[..known], fresh, becomes);
 }
 
 // The condition of the rule, which is its last record, among those of all components.
@@ -46,7 +46,7 @@ fn ruled(rule: &Rule, values: &[Condition]) -> Condition
     ensures { result ≡ ruled (records rule.now) (take (components (records rule.now)) values.now) }
 {
     let n = rule.components();
-    among(&values[0..n], rule.first_component(rule.len() - 1))
+    among(&values[..n], rule.first_component(rule.len() - 1))
 }
 
 // Saves the first points of a table where this is needed.

@@ -26,8 +26,7 @@ impl Watch {
         if is_late(self.newest, sample.stamp) {
             return Err(DrawRefusal::Stamp { place });
         }
-        let point =
-            next_point(self.newest, sample.stamp).ok_or(DrawRefusal::Crowded { place })?;
+        let point = next_point(self.newest, sample.stamp).ok_or(DrawRefusal::Crowded { place })?;
         self.accept(sample, point, tray)
             .ok_or(DrawRefusal::Slots { place })
     }

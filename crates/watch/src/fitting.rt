@@ -8,8 +8,7 @@ ghost use Rattle.watch.specs.States.{state};
 ghost use Rattle.watch.specs.Fittings.{after_fitting};
 
 use crate::arrival::Arrival;
-use crate::treatment::MOST_TREATED;
-use crate::watch::Watch;
+use crate::watch::{MOST_TREATED, Watch};
 use feed::Sample;
 use logic::{HeldPoint, Point};
 use rule::{MOST_COMPONENTS, MOST_WAITS, Rule, RuleRefusal};

@@ -15,7 +15,6 @@ mod naming;
 mod readouts;
 mod runs;
 mod treating;
-mod treatment;
 mod watch;
 
 pub use call::{Answer, Call};

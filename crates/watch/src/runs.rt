@@ -7,8 +7,7 @@ ghost use Rattle.watch.specs.Calls.{Kept, Led, answer_to, drawing_of, entries_af
 ghost use Rattle.watch.specs.States.{state};
 
 use crate::call::{Answer, Call};
-use crate::treatment::MOST_TREATED;
-use crate::watch::Watch;
+use crate::watch::{MOST_TREATED, Watch};
 use feed::Feed;
 use logic::{Line, Point};
 use rule::RuleRefusal;
@@ -28,7 +27,7 @@ impl Watch {
                 };
                 let mut tray = [Line::True(nowhere); MOST_TREATED];
                 let n = size.min(MOST_TREATED);
-                Answer::Draw(self.draw(feed, &mut tray[0..n]))
+                Answer::Draw(self.draw(feed, &mut tray[..n]))
             }
             Call::Drawn => Answer::Count(self.drawn() as usize),
             Call::Accepted => Answer::Count(self.accepted() as usize),

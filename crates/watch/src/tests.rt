@@ -40,16 +40,7 @@ fn within_a_minute(rt: HostRuntime) {
         &rt,
         &mut watch,
         &card,
-        &[
-            Ok(0),
-            Ok(1),
-            Ok(0),
-            Ok(3),
-            Err(25),
-            Ok(0),
-            Err(24),
-            Err(23),
-        ],
+        &[Ok(0), Ok(1), Ok(0), Ok(3), Err(25), Ok(0), Err(24), Err(23)],
         &mut tray,
     );
     let held = Point {

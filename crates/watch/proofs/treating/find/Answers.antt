@@ -11,9 +11,6 @@ use Rattle.logic.specs.Draws.{alike, found}
 use Rattle.watch.proofs.Lookups.{alike_is}
 use Rattle.watch.proofs.treating.find.Goals as goal
 
-
-
-
 by_test : (b : Bool) (h : HeldPoint) (o : Option HeldPoint) → option_map (λ (h : HeldPoint). h.point) (cond b (Some h) o) ≡ cond b (Some h.point) (option_map (λ (h : HeldPoint). h.point) o)
 by_test true h o = refl
 by_test false h o = refl

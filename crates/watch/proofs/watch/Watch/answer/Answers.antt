@@ -1,4 +1,4 @@
--- What is left to prove of `answer`.
+-- A draw is given a tray of the size that the definitions say.
 use Rattle.std.proofs.Common.{◌≡◌, ℕ, ◌-◌, min, length, take, replicate, sym, ap, ◌∙◌, arith}
 use Rattle.std.proofs.lemmas.List.{length-take, length-replicate}
 use Rattle.logic.specs.declared.verdict.Line.{Line}
@@ -11,8 +11,8 @@ use Rattle.watch.specs.Calls.{answer_to, drawing_of, entries_after, state_after,
 use Rattle.watch.proofs.watch.Watch.answer.Goals as goal
 
 -- the length of the part of a tray that a draw is given
-part_length : (x : Line) (n k : ℕ) → k ≡ min n 129 → length (take (k - 0) (replicate 129 x)) ≡ tray_of n
-part_length x n k e = omega (arith, length-take (k - 0) (replicate 129 x), length-replicate 129 x)
+part_length : (x : Line) (n k : ℕ) → k ≡ min n 129 → length (take k (replicate 129 x)) ≡ tray_of n
+part_length x n k e = omega (arith, length-take k (replicate 129 x), length-replicate 129 x)
 
 pub returns-in-Draw : goal.returns-in-Draw
 returns-in-Draw g c =

@@ -1,4 +1,4 @@
--- What is left to prove of `draw`.
+-- The promise is kept after one draw more.
 use Rattle.std.proofs.Common.{◌<◌, length, arith}
 use Rattle.std.proofs.lemmas.List.{length-take-le}
 use Rattle.rule.specs.Reading.{records}
