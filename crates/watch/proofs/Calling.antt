@@ -28,30 +28,29 @@ answers_long : (s : Stage) (cs : List Call) → length (stages s cs).answers ≡
 answers_long s [] = omega arith
 answers_long s (c ∷ cs) = answers_long (moved_on s c) cs ∙ omega (arith, length-append s.answers (answer_to s.state s.rest c ∷ []))
 
--- the next call of a list, on the state and entries as they are
-module _ (st : State) (es : List Entry) (cs : List Call) (i : ℕ) (d : Call) (lt : i < length cs) where
-  abbrev here : Stage
-  here = stages (stage_at st es) (take i cs)
+-- the first i calls of a list are made: what there is, and the answers at the front of S
+pub record Made (st : State) (es : List Entry) (cs : List Call) (S : List Answer) (i : ℕ) (st' : State) (es' : List Entry) (R : List Answer) : Type 0 where
+  pub state : st' ≡ (stages (stage_at st es) (take i cs)).state
+  pub entries : es' ≡ (stages (stage_at st es) (take i cs)).rest
+  pub answers : R ≡ onto (stages (stage_at st es) (take i cs)).answers S
 
-  abbrev there : Stage
-  there = stages (stage_at st es) (take (i + 1) cs)
-
-  step_on : there ≡ moved_on here (get_or cs i d)
-  step_on = ap (stages (stage_at st es)) (take_more cs i d lt) ∙ stages_push (stage_at st es) (take i cs) (get_or cs i d)
-
-  module _ (st₁ : State) (es₁ : List Entry) (e : st₁ ≡ here.state) (f : es₁ ≡ here.rest) where
-    pub next_state : (st₂ : State) → st₂ ≡ state_after st₁ es₁ (drawing_of (get_or cs i d)) → st₂ ≡ there.state
-    next_state st₂ x = x ∙ ap₂ (λ a b. state_after a b (drawing_of (get_or cs i d))) e f ∙ ap (λ (s : Stage). s.state) (sym step_on)
-
-    pub next_entries : (es₂ : List Entry) → es₂ ≡ entries_after st₁ es₁ (drawing_of (get_or cs i d)) → es₂ ≡ there.rest
-    next_entries es₂ x = x ∙ ap₂ (λ a b. entries_after a b (drawing_of (get_or cs i d))) e f ∙ ap (λ (s : Stage). s.rest) (sym step_on)
-
-    pub next_answers : (S R : List Answer) (a : Answer) → i < length S → R ≡ onto here.answers S → a ≡ answer_to st₁ es₁ (get_or cs i d) → set R i a ≡ onto there.answers S
-    next_answers S R a room x y =
-        let long : length here.answers ≡ i = answers_long (stage_at st es) (take i cs) ∙ omega (arith, length-take-le i cs (omega arith)) in
-        ap₂ (λ z b. set z i b) x (y ∙ ap₂ (λ u v. answer_to u v (get_or cs i d)) e f)
-        ∙ onto_more here.answers S i (answer_to here.state here.rest (get_or cs i d)) long room
-        ∙ ap (λ (s : Stage). onto s.answers S) (sym step_on)
+-- the next call, on what there is
+pub made_more : (st : State) (es : List Entry) (cs : List Call) (S : List Answer) (i : ℕ) (st₁ st₂ : State) (es₁ es₂ : List Entry) (R : List Answer) (a : Answer) (x d : Call)
+    → Made st es cs S i st₁ es₁ R → i < length cs → i < length S → x ≡ get_or cs i d
+    → st₂ ≡ state_after st₁ es₁ (drawing_of x) → es₂ ≡ entries_after st₁ es₁ (drawing_of x) → a ≡ answer_to st₁ es₁ x → Made st es cs S (i + 1) st₂ es₂ (set R i a)
+made_more st es cs S i st₁ st₂ es₁ es₂ R a x d m lt room is p q r =
+    let here = stages (stage_at st es) (take i cs) in
+    let there = stages (stage_at st es) (take (i + 1) cs) in
+    let on : moved_on here x ≡ there =
+    ap (moved_on here) is ∙ sym (ap (stages (stage_at st es)) (take_more cs i d lt) ∙ stages_push (stage_at st es) (take i cs) (get_or cs i d)) in
+    let long : length here.answers ≡ i = answers_long (stage_at st es) (take i cs) ∙ omega (arith, length-take-le i cs (omega arith)) in
+    record {
+      state = p ∙ ap₂ (λ u v. state_after u v (drawing_of x)) m.state m.entries ∙ ap (λ (s : Stage). s.state) on;
+      entries = q ∙ ap₂ (λ u v. entries_after u v (drawing_of x)) m.state m.entries ∙ ap (λ (s : Stage). s.rest) on;
+      answers =
+          ap₂ (λ z b. set z i b) m.answers (r ∙ ap₂ (λ u v. answer_to u v x) m.state m.entries)
+          ∙ onto_more here.answers S i (answer_to here.state here.rest x) long room ∙ ap (λ (s : Stage). onto s.answers S) on;
+    }
 
 -- every stage is reached
 module _ (rs : List Record) (slots : ℕ) (start : List Entry) where
@@ -70,50 +69,30 @@ module _ (rs : List Record) (slots : ℕ) (start : List Entry) where
   stages_reached cs = all_reached (newly_fitted rs slots start) cs newly
 
 -- a run by what was read of the rule
-module _ (x : Read) (slots : ℕ) (old st : State) (es : List Entry) where
-  not_refused : {A : Type 0} (u : Unit {0}) (e : RuleRefusal) → ◌≡◌ {A = Result (Unit {0}) RuleRefusal} (Err e) (Ok u) → A
-  not_refused u e q = absurd (let z : ◌≡◌ {A = ℕ} 0 1 = cc in omega arith)
+pub good_run : (x : Read) (u : Unit {0}) (n : ℕ) → Ok u ≡ fit_answer x → Ok n ≡ run_answer x n
+good_run (Ok rs) u n a = refl
+good_run (Err e) u n a = absurd (cc)
 
-  pub good_run : (u : Unit {0}) (n : ℕ) → Ok u ≡ fit_answer x → Ok n ≡ run_answer x n
-  good_run u n a = by x a
-    where
-      by : (y : Read) → Ok u ≡ fit_answer y → Ok n ≡ run_answer y n
-      by (Ok rs) a = refl
-      by (Err f) a = not_refused u f (sym a)
+pub good_played : (x : Read) (slots : ℕ) (old st : State) (es : List Entry) (u : Unit {0}) (cs : List Call)
+    → Ok u ≡ fit_answer x → st ≡ after_fitting x slots old → outcome (stages (stage_at st es) cs) ≡ played x slots old es cs
+good_played (Ok rs) slots old st es u cs a e = ap (λ (z : State). outcome (stages (stage_at z es) cs)) e
+good_played (Err f) slots old st es u cs a e = absurd (cc)
 
-  pub good_played : (u : Unit {0}) (cs : List Call) → Ok u ≡ fit_answer x → st ≡ after_fitting x slots old → outcome (stages (stage_at st es) cs) ≡ played x slots old es cs
-  good_played u cs a e = by x a e
-    where
-      by : (y : Read) → Ok u ≡ fit_answer y → st ≡ after_fitting y slots old → outcome (stages (stage_at st es) cs) ≡ played y slots old es cs
-      by (Ok rs) a e = ap (λ (z : State). outcome (stages (stage_at z es) cs)) e
-      by (Err f) a e = not_refused u f (sym a)
+pub bad_run : (x : Read) (f : RuleRefusal) (n : ℕ) → Err f ≡ fit_answer x → Err f ≡ run_answer x n
+bad_run (Ok rs) f n a = absurd (cc)
+bad_run (Err e) f n a = let same : f ≡ e = cc in ap Err same
 
-  pub bad_run : (f : RuleRefusal) (n : ℕ) → Err f ≡ fit_answer x → Err f ≡ run_answer x n
-  bad_run f n a = by x a
-    where
-      by : (y : Read) → Err f ≡ fit_answer y → Err f ≡ run_answer y n
-      by (Ok rs) a = not_refused tt f a
-      by (Err e) a = let same : f ≡ e = cc in ap Err same
+pub bad_played : (x : Read) (slots : ℕ) (old : State) (es : List Entry) (f : RuleRefusal) (cs : List Call)
+    → Err f ≡ fit_answer x → record { state = old; rest = es; answers = [] } ≡ played x slots old es cs
+bad_played (Ok rs) slots old es f cs a = absurd (cc)
+bad_played (Err e) slots old es f cs a = refl
 
-  pub bad_played : (f : RuleRefusal) (cs : List Call) → Err f ≡ fit_answer x → record { state = old; rest = es; answers = [] } ≡ played x slots old es cs
-  bad_played f cs a = by x a
-    where
-      by : (y : Read) → Err f ≡ fit_answer y → record { state = old; rest = es; answers = [] } ≡ played y slots old es cs
-      by (Ok rs) a = not_refused tt f a
-      by (Err e) a = refl
+pub fitted_table : (x : Read) (slots : ℕ) (old st : State) (rs : List Record) → x ≡ Ok rs → st ≡ after_fitting x slots old → st.table ≡ rs
+fitted_table x slots old st rs e f = ap (λ (s : State). s.table) (f ∙ ap (λ (y : Read). after_fitting y slots old) e)
 
-  pub bad_state : (f : RuleRefusal) → Err f ≡ fit_answer x → st ≡ after_fitting x slots old → st ≡ old
-  bad_state f a e = by x a e
-    where
-      by : (y : Read) → Err f ≡ fit_answer y → st ≡ after_fitting y slots old → st ≡ old
-      by (Ok rs) a e = not_refused tt f a
-      by (Err g) a e = e
-
-  pub fitted_table : (rs : List Record) → x ≡ Ok rs → st ≡ after_fitting x slots old → st.table ≡ rs
-  fitted_table rs e f = ap (λ (s : State). s.table) (f ∙ ap (λ (y : Read). after_fitting y slots old) e)
-
-  pub never_both : {A : Type 0} (f : RuleRefusal) (rs : List Record) → Err f ≡ fit_answer x → x ≡ Ok rs → A
-  never_both f rs a e = not_refused tt f (a ∙ ap fit_answer e)
+pub never_both : (x : Read) (f : RuleRefusal) (rs : List Record) → Err f ≡ fit_answer x → x ≡ Ok rs → ⊥
+never_both (Ok qs) f rs a e = cc
+never_both (Err g) f rs a e = cc
 
 -- the promise at every stage of a run of a sound rule
 pub kept_stages : (rs qs : List Record) (slots : ℕ) (start : List Entry) → qs ≡ rs → Sound qs → waits qs ≤ most_waits → 0 < length qs → (cs : List Call) → Kept rs slots start (stages (newly_fitted rs slots start) cs)

@@ -12,7 +12,7 @@ use Rattle.logic.specs.Draws.{Drawn, Treated, accepted_state, draw, drawn_conten
 
 -- the entry that was drawn
 entry_drawn : (st : State) (es : List Entry) (e : Entry) → Some e ≡ first es → drawn_entry st es ≡ drawn_content st (others es) e.place e.content
-entry_drawn st [] e h = absurd (let z : ◌≡◌ {A = ℕ} 0 1 = cc in omega arith)
+entry_drawn st [] e h = absurd (cc)
 entry_drawn st (x ∷ es) e h = let same : x ≡ e = cc in ap (λ (y : Entry). drawn_content st es y.place y.content) same
 
 pub draw_is : (st : State) (es : List Entry) (n : ℕ) (e : Entry) → st.drawn < most_drawn → length st.held < n → Some e ≡ first es

@@ -107,16 +107,16 @@ impl Watch {
         ensures tray { (es : List Entry) (place : ℕ) → tray.new ≡ onto (sampled (state self.old) es place sample).lines tray.old }
         ensures drawn { self.new.drawn ≡ self.old.drawn }
     {
-        let before = self.count;
-        let count = self.treat_sample(sample, point, tray);
-        if count > self.slots {
-            put_front(&mut self.held, &self.saved, before);
+        let count = self.count;
+        let kept = self.treat_sample(sample, point, tray);
+        if kept > self.slots {
+            put_front(&mut self.held, &self.saved, count);
             return None;
         }
         let n = self.rule.components();
         put_front(&mut self.values, &self.fresh, n);
         self.newest = Some(point);
-        self.count = count;
-        Some(before + 1 - count)
+        self.count = kept;
+        Some(count + 1 - kept)
     }
 }

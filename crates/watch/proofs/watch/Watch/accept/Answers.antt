@@ -14,36 +14,36 @@ use Rattle.watch.specs.States.{state, with_held}
 use Rattle.watch.proofs.Accepted.{no_elements, sampled_full, sampled_held}
 use Rattle.watch.proofs.watch.Watch.accept.Goals as goal
 
-pub returns-then-count-self : goal.returns-then-count-self
-returns-then-count-self c =
+pub returns-then-kept-self : goal.returns-then-kept-self
+returns-then-kept-self c =
     let w = c.args.self.now in
     let st = state w in
     let s = c.args.sample in
     let n = w.count in
     let T = treatment st s (filled_at st s) in
-    let r = c.treat_sample-count.result in
-    let v = c.treat_sample-count.new.self in
-    let same = c.treat_sample-count.ensures.others in
+    let r = c.treat_sample-kept.result in
+    let v = c.treat_sample-kept.new.self in
+    let same = c.treat_sample-kept.ensures.others in
     let slots : v.slots ≡ w.slots = ap (λ (x : State). x.slots) (same []) in
-    let sum = c.treat_sample-count.ensures.sum in
+    let sum = c.treat_sample-kept.ensures.sum in
     let few = w.held_few in
     let low = w.slots_few in
     let long = v.held_long in
     let saved-long = v.saved_long in
-    let more = c.if-count-self.true in
-    let kept = ap length c.treat_sample-count.ensures.held in
+    let more = c.if-kept-self.true in
+    let same-length = ap length c.treat_sample-kept.ensures.held in
     let many = length-take-le r v.held (omega arith) in
     let full : n ≡ w.slots = omega arith in
     let silent : T.lines ≡ [] = no_elements T.lines (omega arith) in
     let back : take v.count c.put_front.new.to ≡ take n w.held =
-    ap (λ k. take k c.put_front.new.to) c.treat_sample-count.ensures.count ∙ ap (take n) c.put_front.ensures
-    ∙ take_onto (take n v.saved) v.held n (length-take-le n v.saved (omega arith)) ∙ c.treat_sample-count.ensures.saved full in
+    ap (λ k. take k c.put_front.new.to) c.treat_sample-kept.ensures.count ∙ ap (take n) c.put_front.ensures
+    ∙ take_onto (take n v.saved) v.held n (length-take-le n v.saved (omega arith)) ∙ c.treat_sample-kept.ensures.saved full in
     let step = λ (es : List Entry) (place : ℕ). sampled_full st es place s (omega arith) in
     record {
       answer = λ es place. sym (ap (λ (d : Drawn). d.answer) (step es place));
       state = λ es place. same (take v.count c.put_front.new.to) ∙ ap (with_held st) back;
       tray = λ es place.
-          c.treat_sample-count.ensures.lines ∙ ap (λ l. onto l c.args.tray.now) silent
+          c.treat_sample-kept.ensures.lines ∙ ap (λ l. onto l c.args.tray.now) silent
           ∙ sym (ap (λ (d : Drawn). onto d.lines c.args.tray.now) (step es place));
       drawn = ap (λ (x : State). x.drawn) (same []);
     }
@@ -54,16 +54,16 @@ returns c =
     let st = state w in
     let s = c.args.sample in
     let f = filled_at st s in
-    let r = c.treat_sample-count.result in
-    let v = c.treat_sample-count.new.self in
-    let same = c.treat_sample-count.ensures.others in
+    let r = c.treat_sample-kept.result in
+    let v = c.treat_sample-kept.new.self in
+    let same = c.treat_sample-kept.ensures.others in
     let slots : v.slots ≡ w.slots = ap (λ (x : State). x.slots) (same []) in
-    let sum = c.treat_sample-count.ensures.sum in
+    let sum = c.treat_sample-kept.ensures.sum in
     let few = w.held_few in
     let low = w.slots_few in
     let long = v.held_long in
-    let not_more = c.if-count-self.false in
-    let kept = ap length c.treat_sample-count.ensures.held in
+    let not_more = c.if-kept-self.false in
+    let same-length = ap length c.treat_sample-kept.ensures.held in
     let many = length-take-le r v.held (omega arith) in
     let given : w.count + 1 - r ≡ length (treatment st s f).lines = omega arith in
     let m = components st.table in
@@ -73,7 +73,7 @@ returns c =
     let fresh-long = v.fresh_long in
     let values : take m c.put_front-2.new.to ≡ f.values =
     ap (take m) c.put_front-2.ensures ∙ take_onto (take k v.fresh) v.values m (length-take-le k v.fresh (omega arith) ∙ is)
-    ∙ ap (λ j. take j v.fresh) is ∙ c.treat_sample-count.ensures.values in
+    ∙ ap (λ j. take j v.fresh) is ∙ c.treat_sample-kept.ensures.values in
     let after : State → Point → List Condition → List HeldPoint → State = λ x p vs hs. record {
       table = x.table;
       slots = x.slots;
@@ -90,7 +90,7 @@ returns c =
       state = λ es place.
           ap (λ (x : State). after x c.args.point (take (components x.table) c.put_front-2.new.to) (take r v.held)) (same [])
           ∙ ap (λ p. after st p (take m c.put_front-2.new.to) (take r v.held)) c.requires.point
-          ∙ ap₂ (after st (next_name w.newest s.stamp)) values c.treat_sample-count.ensures.held ∙ sym (ap (λ (d : Drawn). d.state) (step es place));
-      tray = λ es place. c.treat_sample-count.ensures.lines ∙ sym (ap (λ (d : Drawn). onto d.lines c.args.tray.now) (step es place));
+          ∙ ap₂ (after st (next_name w.newest s.stamp)) values c.treat_sample-kept.ensures.held ∙ sym (ap (λ (d : Drawn). d.state) (step es place));
+      tray = λ es place. c.treat_sample-kept.ensures.lines ∙ sym (ap (λ (d : Drawn). onto d.lines c.args.tray.now) (step es place));
       drawn = ap (λ (x : State). x.drawn) (same []);
     }
