@@ -1,19 +1,18 @@
 -- A sample that is accepted, or turned away because too many points would be held.
-use Rattle.std.proofs.Common.{◌≡◌, ℕ, ◌+◌, ◌<◌, ◌≤◌, cond, leb, List, [], ◌∷◌, ◌++◌, length, take, Some, Ok, Option, sym, refl, ap, ◌∙◌, ap₂, arith}
+use Rattle.std.proofs.Common.{◌≡◌, ℕ, ◌<◌, ◌≤◌, cond, List, [], ◌∷◌, ◌++◌, length, take, Ok, Option, refl, ap, ◌∙◌, ap₂, arith}
 use Rattle.std.proofs.lemmas.Bool.{le-leb, lt-leb}
 use Rattle.truth.specs.declared.table.Condition.{Condition}
 use Rattle.feed.specs.Lists.{onto}
 use Rattle.feed.specs.declared.entry.Entry.{Entry}
 use Rattle.feed.specs.declared.entry.Sample.{Sample}
 use Rattle.rule.specs.Components.{components, waits}
-use Rattle.rule.specs.Reading.{records}
 use Rattle.logic.specs.declared.refusal.DrawRefusal.TheVariants.{Slots}
 use Rattle.logic.specs.declared.verdict.HeldPoint.{HeldPoint}
 use Rattle.logic.specs.declared.verdict.Point.{Point}
 use Rattle.logic.specs.States.{State}
 use Rattle.logic.specs.Draws.{Drawn, Filled, Treated, accepted_state, carried_points, filled, filled_at, gap_from, next_name, ruled, sampled, treated_all, treatment, turned_away}
 use Rattle.watch.specs.declared.watch.Watch.{Watch}
-use Rattle.watch.specs.States.{state}
+use Rattle.watch.specs.States.{state, with_held}
 use Rattle.watch.specs.Treatments.{untreated}
 use Rattle.watch.proofs.Filling.{values_front, becomes_front}
 
@@ -33,6 +32,15 @@ module _ (st : State) (es : List Entry) (place : ℕ) (s : Sample) where
 
   pub sampled_full : st.slots < length now.held → sampled st es place s ≡ turned_away st es (Slots place)
   sampled_full h = ap (λ b. cond b held (turned_away st es (Slots place))) (lt-leb (length now.held) st.slots h)
+
+-- the held points of w are saved in v where they fill the slots, and v is w but for the conditions at the new point
+pub record Saved (w v : Watch) (F B : List Condition) : Type 0 where
+  pub fresh : v.fresh ≡ F
+  pub becomes : v.becomes ≡ B
+  pub held : v.held ≡ w.held
+  pub count : v.count ≡ w.count
+  pub others : (hs : List HeldPoint) → with_held (state v) hs ≡ with_held (state w) hs
+  pub saved : w.count ≡ w.slots → take w.count v.saved ≡ take w.count w.held
 
 -- what the code fills in and treats is what the definitions say
 module _ (w : Watch) (s x : Sample) (gap : Option ℕ) (same : x ≡ s) (since : gap ≡ gap_from w.newest s.stamp) (fresh becomes fresh' becomes' : List Condition) where

@@ -1,5 +1,5 @@
 -- A draw that draws an entry: what it makes of it.
-use Rattle.std.proofs.Common.{◌≡◌, ℕ, ◌<◌, Bool, true, false, cond, ltb, leb, List, [], ◌∷◌, length, Some, None, Ok, Err, Option, sym, refl, ap, ◌∙◌, ap₂, arith}
+use Rattle.std.proofs.Common.{◌≡◌, ℕ, ◌<◌, Bool, true, false, cond, ltb, leb, List, [], ◌∷◌, length, Some, Ok, Err, refl, ap, ◌∙◌, ap₂}
 use Rattle.std.proofs.lemmas.Bool.{lt-ltb}
 use Rattle.feed.specs.Lists.{first, others}
 use Rattle.feed.specs.Entries.{Content}
@@ -8,7 +8,7 @@ use Rattle.feed.specs.declared.entry.Sample.{Sample}
 use Rattle.logic.specs.declared.refusal.DrawRefusal.{DrawRefusal}
 use Rattle.logic.specs.declared.refusal.DrawRefusal.TheVariants.{Counted, Crowded, Slots, Spoiled, Stamp, Tray}
 use Rattle.logic.specs.States.{State}
-use Rattle.logic.specs.Draws.{Drawn, Treated, accepted_state, draw, drawn_content, drawn_entry, filled_at, late, most_drawn, most_offsets, next_offset, sampled, treatment, turned_away, turned_state, unaltered}
+use Rattle.logic.specs.Draws.{Drawn, Treated, accepted_state, draw, drawn_content, drawn_entry, filled_at, late, most_drawn, most_offsets, next_offset, treatment, turned_away, turned_state, unaltered}
 
 -- the entry that was drawn
 entry_drawn : (st : State) (es : List Entry) (e : Entry) → Some e ≡ first es → drawn_entry st es ≡ drawn_content st (others es) e.place e.content

@@ -1,5 +1,5 @@
 -- What is said of a point when it is treated.
-use Rattle.std.specs.Prelude.{cond, List, [], ◌∷◌, ◌++◌, Some, None, Option}
+use Rattle.std.specs.Prelude.{cond, List, [], Some, None, Option}
 use Rattle.truth.specs.Tables.{openly}
 use Rattle.logic.specs.declared.verdict.HeldPoint.{HeldPoint}
 use Rattle.logic.specs.declared.verdict.Line.{Line}

@@ -1,5 +1,5 @@
 // A sample is accepted as a new point, with all that follows.
-ghost use Rattle.std.specs.Prelude.{◌≡◌, ℕ, ◌+◌, ◌<◌, ◌≤◌, true, List, length, take, MatchOption};
+ghost use Rattle.std.specs.Prelude.{◌≡◌, ℕ, ◌+◌, ◌<◌, ◌≤◌, List, length, take, MatchOption};
 ghost use Rattle.std.specs.Option.{ok_or};
 ghost use Rattle.feed.specs.Lists.{onto};
 ghost use Rattle.feed.specs.declared.entry.Entry.{Entry};
@@ -49,17 +49,6 @@ fn ruled(rule: &Rule, values: &[Condition]) -> Condition
     among(&values[..n], rule.first_component(rule.len() - 1))
 }
 
-// Saves the first points of a table where this is needed.
-fn save(needed: bool, saved: &mut [HeldPoint], held: &[HeldPoint], count: usize)
-    requires saved { count ≤ length saved.old }
-    requires held { count ≤ length held.now }
-    ensures { needed ≡ true → saved.new ≡ onto (take count held.now) saved.old }
-{
-    if needed {
-        put_front(saved, held, count);
-    }
-}
-
 impl Watch {
     // Fills in the conditions at the new point of a sample, and treats the held points, carried there, and then the new point.
     // The answer is how many stay held. The held points are saved before, where as many are held as there are slots.
@@ -88,7 +77,9 @@ impl Watch {
         let new = HeldPoint { point, condition };
         let waits = self.rule.waits();
         let count = self.count;
-        save(count == self.slots, &mut self.saved, &self.held, count);
+        if count == self.slots {
+            put_front(&mut self.saved, &self.held, count);
+        }
         treat_with(&mut self.held, count, &self.becomes, waits, new, tray)
     }
 

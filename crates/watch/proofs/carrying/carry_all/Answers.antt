@@ -1,5 +1,5 @@
 -- One point more is carried.
-use Rattle.std.proofs.Common.{◌<◌, length, get_or, set, sym, ap, ◌∙◌, arith}
+use Rattle.std.proofs.Common.{get_or, set, sym, ap, ◌∙◌, arith}
 use Rattle.std.proofs.lemmas.List.Edits.{map_over_more}
 use Rattle.truth.specs.declared.table.Condition.{Condition}
 use Rattle.truth.specs.Replacing.{replaced}

@@ -1,12 +1,11 @@
 -- The first held point that has the condition is found.
-use Rattle.std.proofs.Common.{◌≡◌, Bool, true, false, cond, List, [], ◌∷◌, Some, None, Option, Bor, refl, ◌∙◌, ap, rules, tests}
+use Rattle.std.proofs.Common.{◌≡◌, Bool, true, false, cond, List, [], ◌∷◌, Some, None, Option, Bor, refl, ◌∙◌, ap, rules}
 use Rattle.std.proofs.lemmas.Iterator.{YieldsList-from_slice}
 use Rattle.std.proofs.lemmas.Iterator.Search.{find_from_yields_List}
 use Rattle.std.specs.List.{find}
 use Rattle.std.specs.Option.{option_map}
 use Rattle.truth.specs.declared.table.Condition.{Condition}
 use Rattle.logic.specs.declared.verdict.HeldPoint.{HeldPoint}
-use Rattle.logic.specs.declared.verdict.Point.{Point}
 use Rattle.logic.specs.Draws.{alike, found}
 use Rattle.watch.proofs.Lookups.{alike_is}
 use Rattle.watch.proofs.treating.find.Goals as goal

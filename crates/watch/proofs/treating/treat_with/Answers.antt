@@ -1,5 +1,5 @@
 -- The points that are treated.
-use Rattle.std.proofs.Common.{◌≡◌, ◌+◌, ◌-◌, ◌<◌, ◌≤◌, List, [], ◌∷◌, ◌++◌, length, take, drop, sym, ap, ◌∙◌, ap₂, arith}
+use Rattle.std.proofs.Common.{◌≡◌, ◌+◌, List, length, take, drop, sym, ap, ◌∙◌, arith}
 use Rattle.feed.specs.Lists.{onto}
 use Rattle.std.proofs.lemmas.List.{length-append, length-drop, length-map, length_push, length-take-le, take-append-le}
 use Rattle.logic.specs.declared.verdict.HeldPoint.{HeldPoint}

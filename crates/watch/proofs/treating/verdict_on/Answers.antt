@@ -1,5 +1,5 @@
 -- By the tests of the condition.
-use Rattle.std.proofs.Common.{◌≡◌, true, false, cond, Some, sym, ap, ◌∙◌, ap₂, rules}
+use Rattle.std.proofs.Common.{◌≡◌, true, false, cond, Some, ap, ◌∙◌, ap₂, rules}
 use Rattle.truth.specs.Tables.{openly}
 use Rattle.logic.specs.declared.verdict.Line.TheVariants.{True, False}
 use Rattle.logic.specs.Draws.{alike, found}

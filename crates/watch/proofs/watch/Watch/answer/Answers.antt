@@ -1,5 +1,5 @@
 -- A draw is given a tray of the size that the definitions say.
-use Rattle.std.proofs.Common.{◌≡◌, ℕ, ◌-◌, min, length, take, replicate, sym, ap, ◌∙◌, arith}
+use Rattle.std.proofs.Common.{◌≡◌, ℕ, min, length, take, replicate, sym, ap, ◌∙◌, arith}
 use Rattle.std.proofs.lemmas.List.{length-take, length-replicate}
 use Rattle.logic.specs.declared.verdict.Line.{Line}
 use Rattle.logic.specs.declared.verdict.Line.TheVariants.{True}

@@ -1,5 +1,5 @@
 -- The entry that was drawn is taken: the others are still to come.
-use Rattle.std.proofs.Common.{◌≡◌, ◌<◌, length, Some, sym, ap, ◌∙◌, arith}
+use Rattle.std.proofs.Common.{◌≡◌, length, Some, sym, ap, ◌∙◌, arith}
 use Rattle.std.proofs.lemmas.List.{length-take-le}
 use Rattle.feed.specs.Lists.{first, others}
 use Rattle.logic.specs.Draws.{Drawn, draw_rest}

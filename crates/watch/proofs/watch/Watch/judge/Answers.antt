@@ -3,7 +3,6 @@ use Rattle.std.proofs.Common.{◌≡◌, false, cond, ltb, List, Some, None, Ok,
 use Rattle.std.specs.Option.{MatchOption, ok_or}
 use Rattle.std.proofs.lemmas.Option.{cond_some}
 use Rattle.feed.specs.Lists.{onto}
-use Rattle.feed.specs.Entries.{Content}
 use Rattle.feed.specs.declared.entry.Entry.{Entry}
 use Rattle.logic.specs.declared.refusal.DrawRefusal.TheVariants.{Slots, Stamp, Crowded}
 use Rattle.logic.specs.Draws.{Drawn, drawn_content, late, most_offsets, next_offset, sampled, turned_away}

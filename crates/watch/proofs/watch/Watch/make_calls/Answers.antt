@@ -1,5 +1,5 @@
 -- No call is made before the first, and then one call more.
-use Rattle.std.proofs.Common.{◌≡◌, ◌<◌, length, min, refl, arith}
+use Rattle.std.proofs.Common.{◌≡◌, length, min, refl, arith}
 use Rattle.std.proofs.lemmas.List.{get_or-take, length-take-le}
 use Rattle.watch.specs.declared.call.Call.TheVariants.{Draw}
 use Rattle.watch.proofs.Calling.{made_more}
