@@ -45,16 +45,13 @@ returns c =
     let gap = c.renew.ensures.gap ∙ c.gap_from.ensures in
     let fresh = kept.fresh ∙ c.fill_after.ensures.fresh in
     let becomes = kept.becomes ∙ c.fill_after.ensures.becomes in
-    let values = values_are w s a.sample a.gap c.renew.ensures.sample gap w.fresh w.becomes v.fresh v.becomes fresh becomes in
     let condition = c.ruled-condition.ensures ∙ ap (λ vs. ruled (records w.rule) (take (components (records w.rule)) vs)) (sym kept.fresh) in
-    let made = treated_is w s a.sample a.gap c.renew.ensures.sample gap w.fresh w.becomes v.fresh v.becomes fresh becomes
-    c.waits-waits.result c.args.point c.ruled-condition.result c.waits-waits.ensures.value c.requires.point condition in
-    let whole = ap (λ hs. treated_all untreated (carried_points (take c.waits-waits.result v.becomes) (take n hs) ++ (record { point = c.args.point; condition = c.ruled-condition.result } ∷ []))) kept.held ∙ made in
+    let made = treated_is w v s a c.renew.ensures.sample gap fresh becomes c.waits-waits.result c.args.point c.ruled-condition.result c.waits-waits.ensures.value c.requires.point condition kept.held in
     record {
-      held = c.treat_with.ensures.held ∙ ap (λ (t : Treated). t.held) whole;
-      lines = c.treat_with.ensures.lines ∙ ap (λ (t : Treated). onto t.lines c.args.tray.now) whole;
-      sum = ap (λ (t : Treated). c.treat_with.result + length t.lines) (sym whole) ∙ c.treat_with.ensures.sum;
-      values = values;
+      held = c.treat_with.ensures.held ∙ ap (λ (t : Treated). t.held) made;
+      lines = c.treat_with.ensures.lines ∙ ap (λ (t : Treated). onto t.lines c.args.tray.now) made;
+      sum = ap (λ (t : Treated). c.treat_with.result + length t.lines) (sym made) ∙ c.treat_with.ensures.sum;
+      values = values_are w v s a c.renew.ensures.sample gap fresh becomes;
       saved = kept.saved;
       count = kept.count;
       others = kept.others;
