@@ -1,5 +1,5 @@
 // The instant watch on examples.
-use crate::{InstantWatch, StepRefusal};
+use crate::{InstantWatch, StepRefusal, value_or_never};
 use feed::Sample;
 use rule::RuleRefusal;
 use std::process::Abort;
@@ -131,4 +131,10 @@ fn open_conditions(rt: HostRuntime) {
         Ok(())
     );
     assert!(rt; place.same(&never));
+}
+
+#[test]
+fn values_at_places(rt: HostRuntime) {
+    assert!(rt; value_or_never(&[false, true], Some(1)));
+    assert!(rt; !value_or_never(&[true, true], Some(2)) && !value_or_never(&[true], None));
 }

@@ -3,6 +3,7 @@ use crate::{Counts, Report, TRAY, write_report};
 use arrayvec::ArrayString;
 use feed::{Cause, Fault};
 use logic::{Line, Point};
+use rule::RuleRefusal;
 use std::fmt::Write;
 use std::process::Abort;
 
@@ -64,6 +65,10 @@ fn refusals(rt: HostRuntime) {
         b"entry 18446744073709551615 refused 255 cause 2 layer 255\n",
     );
     writes(&rt, Report::RuleRefused { number: 3 }, b"rule refused 3\n");
+    assert_eq!(rt;
+        Report::from(RuleRefusal::Argument),
+        Report::RuleRefused { number: 3 }
+    );
     writes(&rt, Report::LogTooLong, b"log too long\n");
 }
 

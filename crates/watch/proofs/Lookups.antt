@@ -1,10 +1,9 @@
 -- Conditions that are the same, and the search for one among held points.
-use Rattle.std.proofs.Common.{◌≡◌, ℕ, zero, suc, ◌+◌, ◌<◌, ◌≤◌, Bool, cond, List, [], ◌∷◌, length, get_or, take, drop, Some, None, Decides, Option, sym, refl, ap, ◌∙◌, arith}
+use Rattle.std.proofs.Common.{◌≡◌, ℕ, zero, suc, ◌+◌, ◌<◌, ◌≤◌, Bool, cond, List, [], ◌∷◌, length, get_or, take, drop, Some, None, Decides, refl, arith}
 use Rattle.std.proofs.lemmas.List.{at_drop_more}
 use Rattle.std.proofs.lemmas.Bool.Decides.{same_from_decides}
 use Rattle.truth.specs.declared.table.Condition.{Condition}
 use Rattle.logic.specs.declared.verdict.HeldPoint.{HeldPoint}
-use Rattle.logic.specs.declared.verdict.Point.{Point}
 use Rattle.logic.specs.Draws.{alike, found, name_at}
 use Rattle.logic.proofs.Represented.{alike_decides}
 

@@ -1,6 +1,5 @@
 -- The next held point is put behind the text, and none is left.
-use Rattle.std.proofs.Common.{◌≡◌, ◌+◌, ◌<◌, ◌++◌, length, drop, vec_items, sym, ap, ◌∙◌, arith, rules}
-use Rattle.std.proofs.lemmas.List.{append-nil}
+use Rattle.std.proofs.Common.{◌+◌, ◌<◌, ◌++◌, length, drop, vec_items, ap, ◌∙◌, arith}
 use Rattle.printing.specs.Reports.{held_reports, printed}
 use Rattle.watch.specs.States.{state}
 use Rattle.printing.proofs.Prints.{held_more, held_some}

@@ -1,10 +1,9 @@
 -- What is left to prove of `fill`.
-use Rattle.std.proofs.Common.{◌≡◌, ℕ, suc, ◌+◌, ◌-◌, ◌<◌, ◌≤◌, ◌++◌, length, take, sym, refl, ap, ◌∙◌, subst, ap₂, add-one, arith, rules}
-use Rattle.std.proofs.lemmas.List.{length-take-le}
+use Rattle.std.proofs.Common.{◌≡◌, suc, ◌+◌, ◌<◌, ◌≤◌, length, sym, ap, ◌∙◌, arith, rules}
 use Rattle.std.proofs.lemmas.List.Sums.{sum_by-take-le}
 use Rattle.feed.specs.Lists.{onto}
 use Rattle.rule.specs.Reading.{records}
-use Rattle.rule.specs.Components.{components, first_component, first_wait, own_waits}
+use Rattle.rule.specs.Components.{first_component, own_waits}
 use Rattle.rule.proofs.Numbering.{first_le}
 use Rattle.logic.specs.Draws.{filled}
 use Rattle.watch.proofs.Filling.{values_more, becomes_more}

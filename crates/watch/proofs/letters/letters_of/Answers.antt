@@ -1,5 +1,5 @@
 -- The letters that were made are those of the sample.
-use Rattle.std.proofs.Common.{◌≡◌, cond, ap, ◌∙◌, rules}
+use Rattle.std.proofs.Common.{◌≡◌, rules}
 use Rattle.std.proofs.lemmas.List.FromFn.{fill_by_all}
 use Rattle.truth.specs.Tables.{openly}
 use Rattle.truth.proofs.Made.{made_at}

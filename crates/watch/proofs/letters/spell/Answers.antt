@@ -1,5 +1,5 @@
 -- One letter more, which is written where it differs.
-use Rattle.std.proofs.Common.{◌≡◌, ◌+◌, cond, List, sym, ap, ◌∙◌, subst, arith}
+use Rattle.std.proofs.Common.{◌+◌, cond, List, sym, ap, ◌∙◌, subst, arith}
 use Rattle.std.proofs.lemmas.List.{set-get_or}
 use Rattle.truth.specs.declared.table.Condition.{Condition}
 use Rattle.truth.specs.Tables.{openly}

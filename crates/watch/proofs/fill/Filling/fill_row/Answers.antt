@@ -4,7 +4,7 @@ use Rattle.std.specs.List.{range_with_len}
 use Rattle.std.proofs.lemmas.List.{length-take-le}
 use Rattle.std.proofs.lemmas.List.FromFn.{length-map-range_with_len}
 use Rattle.rule.specs.Reading.{records}
-use Rattle.rule.specs.Components.{components, first_component, left_of, shifts}
+use Rattle.rule.specs.Components.{first_component, left_of, shifts}
 use Rattle.rule.proofs.Numbering.{first_room}
 use Rattle.logic.specs.Draws.{conditioned, lettered}
 use Rattle.logic.specs.Tables.{row}

@@ -1,5 +1,5 @@
 -- A record without arguments looks at the letters alone.
-use Rattle.std.proofs.Common.{◌≡◌, ap, ◌∙◌}
+use Rattle.std.proofs.Common.{ap, ◌∙◌}
 use Rattle.rule.specs.declared.record.Record.{Record}
 use Rattle.rule.specs.Reading.{records}
 use Rattle.truth.specs.Tables.{openly}

@@ -1,12 +1,11 @@
 -- What is filled in and treated is what the definitions say, and the held points are saved where they fill the slots.
-use Rattle.std.proofs.Common.{◌≡◌, ◌+◌, [], ◌∷◌, ◌++◌, length, take, sym, refl, ap, ◌∙◌, subst, arith}
+use Rattle.std.proofs.Common.{◌≡◌, ◌+◌, length, take, sym, refl, ap, ◌∙◌, subst, arith}
 use Rattle.std.proofs.lemmas.List.{length-take-le}
 use Rattle.feed.specs.Lists.{onto}
 use Rattle.feed.proofs.Onto.{take_onto}
-use Rattle.logic.specs.Draws.{Treated, carried_points, ruled, treated_all}
+use Rattle.logic.specs.Draws.{Treated, ruled}
 use Rattle.rule.specs.Components.{components}
 use Rattle.rule.specs.Reading.{records}
-use Rattle.watch.specs.Treatments.{untreated}
 use Rattle.watch.specs.declared.watch.Watch.{Watch}
 use Rattle.watch.proofs.Accepted.{Saved, treated_is, values_are}
 use Rattle.watch.proofs.watch.Watch.treat_sample.Goals as goal
