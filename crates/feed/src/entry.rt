@@ -1,6 +1,9 @@
 // What a feed gives: entries, which are samples or spoiled.
-ghost use Rattle.std.specs.Prelude.{◌≡◌};
-ghost use Rattle.feed.specs.Entries.{cause_number, letter_of};
+ghost use Rattle.std.specs.Prelude.{◌≡◌, map};
+ghost use Rattle.std.specs.List.{range_with_len};
+ghost use Rattle.feed.specs.Entries.{cause_number, letter_count, letter_of};
+
+use std::array;
 
 // How many letters there are.
 pub const LETTERS: u8 = 12;
@@ -49,6 +52,13 @@ impl Sample {
         ensures { result ≡ letter_of self.letters k }
     {
         k < 16 && (self.letters >> k) % 2 == 1
+    }
+
+    // Whether the sample has each of the letters, from 0 on.
+    pub fn spelled(self) -> [bool; LETTERS as usize]
+        ensures { result ≡ map (letter_of self.letters) (range_with_len 0 letter_count) }
+    {
+        array::from_fn(|k| self.letter(k as u8))
     }
 }
 

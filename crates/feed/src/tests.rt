@@ -76,6 +76,8 @@ fn letters(rt: HostRuntime) {
     };
     assert!(rt; some.letter(0) && some.letter(2) && some.letter(11));
     assert!(rt; !some.letter(1) && !some.letter(12) && !some.letter(16) && !some.letter(255));
+    let all = some.spelled();
+    assert!(rt; all[0] && !all[1] && all[2] && all[11]);
 }
 
 #[test]

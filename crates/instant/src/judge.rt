@@ -11,15 +11,7 @@ ghost use Rattle.instant.specs.Step.{ruled, shelf_after, values};
 
 use crate::refusal::StepRefusal;
 use crate::watch::InstantWatch;
-use feed::{LETTERS, Sample};
-use std::array;
-
-// The letters of a sample.
-fn letters_of(sample: Sample) -> [bool; LETTERS as usize]
-    ensures { result ≡ word_letters sample.letters }
-{
-    array::from_fn(|k| sample.letter(k as u8))
-}
+use feed::Sample;
 
 impl InstantWatch {
     // Whether the rule is true at a sample: a step in the plain kind. Where the shelf goes from step to step unaltered, the
@@ -33,7 +25,7 @@ impl InstantWatch {
         ensures runs { (ps : List (Accepted Bool)) → Run plainly (records self.old.rule) ps self.old.newest shelf.old → is_ok result ≡ true → Run plainly (records self.old.rule) (taken plainly sample.stamp (word_letters sample.letters) ∷ ps) self.new.newest shelf.new }
         ensures says { IfOk result (λ b. (ps : List (Accepted Bool)) → Run plainly (records self.old.rule) ps self.old.newest shelf.old → Says (records self.old.rule) (taken plainly sample.stamp (word_letters sample.letters)) ps b) }
     {
-        let letters = letters_of(sample);
+        let letters = sample.spelled();
         let mut place = false;
         self.step(sample.stamp, &letters, shelf, &mut place)?;
         Ok(place)

@@ -5,16 +5,8 @@ ghost use Rattle.feed.specs.Entries.{letter_count};
 ghost use Rattle.logic.specs.Draws.{lettered};
 
 use crate::arrival::Arrival;
-use feed::{LETTERS, Sample};
-use std::array;
+use feed::Sample;
 use truth::Condition;
-
-// The letters of a sample, each always or never.
-fn letters_of(sample: Sample) -> [Condition; LETTERS as usize]
-    ensures { result ≡ map (lettered sample.letters) (range_with_len 0 letter_count) }
-{
-    array::from_fn(|k| Condition::from(sample.letter(k as u8)))
-}
 
 // Spells the letters of a sample where those of an older one stand.
 fn spell(letters: &mut [Condition], old: Sample, new: Sample)
@@ -35,10 +27,9 @@ impl Arrival {
         ensures sample { result.sample ≡ sample }
         ensures gap { result.gap ≡ gap }
     {
-        let letters = letters_of(sample);
         Arrival {
             sample,
-            letters,
+            letters: sample.spelled().map(Condition::from),
             gap,
         }
     }
