@@ -20,13 +20,7 @@ fn gives<F: Feed>(rt: &impl Abort, feed: &mut F, want: &[Content]) {
 }
 
 // What the making of a pattern answers, by the number of the refusal.
-fn made(
-    pattern: &mut Pattern,
-    first: u32,
-    per: u32,
-    words: &[u16],
-    count: u32,
-) -> Result<(), u8> {
+fn made(pattern: &mut Pattern, first: u32, per: u32, words: &[u16], count: u32) -> Result<(), u8> {
     pattern
         .make(first, per, words, count)
         .map_err(PatternRefusal::number)

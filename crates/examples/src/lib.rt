@@ -1,6 +1,6 @@
+// Examples that go across crates, which are proved and then run as tests.
 #![tactic(auto)]
 
-// Examples that go across crates, which are proved and then run as tests.
 #[cfg(test)]
 mod feeds;
 #[cfg(test)]

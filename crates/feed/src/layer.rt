@@ -24,8 +24,8 @@ pub trait Turn {
 // The feed `beneath` with each content turned by `turn`; places stay.
 #[derive(Drop)]
 pub struct Layer<F, T> {
-    pub(crate) beneath: F,
-    pub(crate) turn: T,
+    pub beneath: F,
+    pub turn: T,
 }
 
 // The height of a layer over a feed of the height `beneath`.

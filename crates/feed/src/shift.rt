@@ -11,7 +11,7 @@ use crate::layer::{Layer, Turn};
 // passed on.
 #[derive(Clone, Copy)]
 pub struct ShiftBy {
-    by: i32,
+    pub by: i32,
 }
 
 // The feed beneath, shifted.

@@ -32,9 +32,6 @@ none_ahead [] j h = refl
 none_ahead (r ∷ rs) zero h = grind (arith, nat_tests)
 none_ahead (r ∷ rs) (suc j) h = none_ahead rs j (grind (arith, nat_tests))
 
-false_true : {A : Type 0} → true ≡ false → A
-false_true e = absurd (let z : ◌≡◌ {A = ℕ} 0 1 = cc in omega arith)
-
 module _ {T : Type 0} (k : Ops T) (laws : Laws k) (rs : List Record) (sound : Sound rs) (past : any_ahead rs ≡ false) (ρ : Stream T) where
   -- a list of values has those of all components at point i
   abbrev Has : List T → ℕ → Type 0
@@ -100,8 +97,8 @@ module _ {T : Type 0} (k : Ops T) (laws : Laws k) (rs : List Record) (sound : So
         ap₂ (λ x y. stepped k I s x y (before k bs (earlier rs (Since I a b) (first_component rs j) s g)))
         (args a (left_earlier j a (Since I a b) h refl)) (args b (right_earlier j b (Since I a b) h refl))
         ∙ since_value I a b q e g i prior s (omega arith)
-    by_record (Next I a) q p e h s l = false_true p
-    by_record (Until I a b) q p e h s l = false_true p
+    by_record (Next I a) q p e h s l = cc
+    by_record (Until I a b) q p e h s l = cc
 
   -- all records, from the values of those before
   module _ (ls : List T) (g : Option ℕ) (bs : List T) (i : ℕ) (letters : (l : ℕ) → ρ.letters i l ≡ get_or ls l k.never) (prior : Prior g bs i) where
@@ -201,8 +198,8 @@ module _ (rs : List Record) (sound : Sound rs) (ahead : any_ahead rs ≡ false) 
   past_record j (Or a b) p h args = (args a (left_earlier j a (Or a b) h refl), args b (right_earlier j b (Or a b) h refl))
   past_record j (Previous I a) p h args = args a (left_earlier j a (Previous I a) h refl)
   past_record j (Since I a b) p h args = (args a (left_earlier j a (Since I a b) h refl), args b (right_earlier j b (Since I a b) h refl))
-  past_record j (Next I a) p h args = false_true p
-  past_record j (Until I a b) p h args = false_true p
+  past_record j (Next I a) p h args = cc
+  past_record j (Until I a b) p h args = cc
 
   past_below : (n j : ℕ) → j < n → j < length rs → Past (formula rs j)
   past_below zero j b h = absurd (omega arith)

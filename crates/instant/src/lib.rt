@@ -11,6 +11,7 @@ mod value;
 mod watch;
 
 pub use refusal::StepRefusal;
+pub use shelf::last_value;
 pub use theorems::runs_are_witnessed;
 pub use value::{evaluate, value_or_never};
 pub use watch::InstantWatch;

@@ -26,7 +26,10 @@ impl<T: Truth + Copy> Step<'_, T> {
     fn argument(&self, which: Option<u8>, values: &[T]) -> T
         ensures { result ≡ argument T.Truth.ops (records self.now.rule.now) values.now which }
     {
-        value_or_never(values, which.map(|a| self.rule.first_component(a as usize)))
+        value_or_never(
+            values,
+            which.map(|a| self.rule.first_component(usize::from(a))),
+        )
     }
 
     // Fills in the newest values of record j, at each of its shifts, over those of earlier records.
@@ -119,9 +122,9 @@ pub(crate) fn advance<T: Truth + Copy>(
     renew(rule, gap, letters, values, &mut behind[..n]);
 }
 
-// The newest value of the last record, which is the rule.
-pub(crate) fn last_value<T: Truth + Copy>(rule: &Rule, shelf: &[T]) -> T
-    ensures { result ≡ ruled T.Truth.ops (records rule.now) shelf.now }
+// The value of the last record, which is the rule, among those of all components; never where it is not there.
+pub fn last_value<T: Truth + Copy>(rule: &Rule, values: &[T]) -> T
+    ensures { result ≡ ruled T.Truth.ops (records rule.now) values.now }
 {
-    value_or_never(shelf, Some(rule.first_component(rule.len() - 1)))
+    value_or_never(values, Some(rule.first_component(rule.len() - 1)))
 }

@@ -1,1 +1,2 @@
+-- Definitions that the contracts cite.
 pub mod Sessions

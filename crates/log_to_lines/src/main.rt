@@ -4,7 +4,8 @@
 mod session;
 
 use feed::{Feed, RecordFeed};
-use lines::{Report, TRAY, write_report};
+use lines::Report;
+use rule::{MOST_RECORDS, RECORD_BYTES};
 use session::{MOST_LOG_BYTES, Session};
 use std::alloc::Global;
 use std::fs::File;
@@ -12,38 +13,27 @@ use std::io;
 use std::io::{ErrorKind, Read, Write};
 
 // A rule has no more bytes, so that one more is enough to refuse it.
-const MOST_RULE_BYTES: u64 = 160;
+const MOST_RULE_BYTES: usize = MOST_RECORDS * RECORD_BYTES;
 
-// The bytes of the file rule.bin, as far as they count; a missing file is an empty one.
-fn read_rule(rt: &HostRuntime) -> io::Result<Vec<u8>> {
+// The first bytes of a reader, at most `most` of them.
+fn read_up_to<R: Read + Drop>(rt: &HostRuntime, reader: R, most: u64) -> io::Result<Vec<u8>> {
     let mut bytes = Vec::new(rt.alloc());
-    match File::open(rt, "rule.bin") {
-        Ok(file) => {
-            file.take(MOST_RULE_BYTES + 1).read_to_end(&mut bytes)?;
-        }
-        Err(e) => {
-            if e.kind() != ErrorKind::NotFound {
-                return Err(e);
-            }
-        }
-    }
+    reader.take(most).read_to_end(&mut bytes)?;
     Ok(bytes)
 }
 
-// The bytes of the card, as far as they count.
-fn read_log(rt: &HostRuntime) -> io::Result<Vec<u8>> {
-    let mut bytes = Vec::new(rt.alloc());
-    rt.stdin()
-        .take(MOST_LOG_BYTES as u64 + 1)
-        .read_to_end(&mut bytes)?;
-    Ok(bytes)
+// The bytes of the file rule.bin, as far as they count; a missing file is an empty one.
+fn read_rule(rt: &HostRuntime) -> io::Result<Vec<u8>> {
+    match File::open(rt, "rule.bin") {
+        Ok(file) => read_up_to(rt, file, MOST_RULE_BYTES as u64 + 1),
+        Err(e) if e.kind() == ErrorKind::NotFound => Ok(Vec::new(rt.alloc())),
+        Err(e) => Err(e),
+    }
 }
 
 // Prints the line of a report.
 fn print_report(rt: &HostRuntime, report: Report) -> io::Result<()> {
-    let mut tray = [0; TRAY];
-    let len = write_report(report, &mut tray);
-    rt.stdout().write_all(&tray[0..len])
+    println!(rt; "{report}")
 }
 
 // Judges each entry, and prints the counts.
@@ -57,7 +47,7 @@ fn judge_all(rt: &HostRuntime, session: &mut Session, log: &[u8]) -> io::Result<
 
 fn main(rt: HostRuntime) -> io::Result<()> {
     let rule = read_rule(&rt)?;
-    let log = read_log(&rt)?;
+    let log = read_up_to(&rt, rt.stdin(), MOST_LOG_BYTES as u64 + 1)?;
     match Session::begin(&rule, log.len()) {
         Ok(mut session) => judge_all(&rt, &mut session, &log),
         Err(report) => print_report(&rt, report),

@@ -2,10 +2,11 @@
 mod taking;
 
 use instant::InstantWatch;
+use rule::MOST_COMPONENTS;
 pub use taking::MOST_LOG_BYTES;
 
 // A shelf for the largest rule: twice its 64 components.
-pub const SHELF: usize = 128;
+pub const SHELF: usize = 2 * MOST_COMPONENTS;
 
 // The watch with its shelf, the offset of the newest point, and how many entries were accepted and turned away.
 #[derive(Clone, Copy)]

@@ -2,7 +2,7 @@
 use truth::Condition;
 
 // The name of an accepted point, written stamp:offset. The offset counts from 0 among the points of that stamp.
-#[derive(Clone, Copy, PartialEq, Eq, Debug)]
+#[derive(Clone, Copy, PartialEq, Eq, Debug, Default)]
 pub struct Point {
     pub stamp: u32,
     pub offset: u16,

@@ -6,6 +6,7 @@ use anyhow::Context;
 use feed::{Feed, Minute, Pattern, Shift};
 use logic::{DrawRefusal, Line, Point};
 use printing::{put_counts, put_draw, put_held};
+use rule::MOST_SLOTS;
 use std::env::Args;
 use std::io::Write;
 use std::iter::Skip;
@@ -18,7 +19,7 @@ use watch::Watch;
 type Pile = Shift<Minute<Pattern>>;
 
 // Draws go to trays of so many lines, in turn: the first has room for any draw, the last only where no point is held.
-const TRAYS: [usize; 3] = [129, 4, 1];
+const TRAYS: [usize; 3] = [MOST_SLOTS + 1, 4, 1];
 
 // After so many draws the watch is read out, and again.
 const READ_OUT: u32 = 16;
@@ -69,11 +70,7 @@ fn draw_once(
     pile: &mut Pile,
     lines: usize,
 ) -> anyhow::Result<bool> {
-    let nowhere = Point {
-        stamp: 0,
-        offset: 0,
-    };
-    let mut tray = [Line::True(nowhere); TRAYS[0]];
+    let mut tray = [Line::True(Point::default()); TRAYS[0]];
     let size = lines.min(tray.len());
     let mut text = Vec::new(rt.alloc());
     let drawn = put_draw(&mut text, watch, pile, &mut tray[0..size])?;

@@ -27,11 +27,7 @@ fn put_card(out: &mut Vec<u8>, watch: &mut Watch, card: &[u8]) -> Result<(), All
     requires { (state watch.old).drawn + length (entries_of card.now) ≤ 10000 }
     ensures { OnOk result (out.new.items ≡ out.old.items ++ printed (card_reports (state watch.old) (entries_of card.now))) }
 {
-    let nowhere = Point {
-        stamp: 0,
-        offset: 0,
-    };
-    let mut tray = [Line::True(nowhere); TRAY_LINES];
+    let mut tray = [Line::True(Point::default()); TRAY_LINES];
     let mut feed = RecordFeed::new(card);
     while feed.has_entry() {
         put_draw(out, watch, &mut feed, &mut tray)?;

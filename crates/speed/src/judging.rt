@@ -6,10 +6,11 @@ ghost use Rattle.speed.specs.Tallies.{counted, course, none, size, tallied};
 use crate::tally::Tally;
 use feed::Feed;
 use logic::{Line, Point};
+use rule::MOST_SLOTS;
 use watch::Watch;
 
 // A tray of this length has room for the lines of any draw.
-const TRAY: usize = 129;
+const TRAY: usize = MOST_SLOTS + 1;
 
 impl Tally {
     // One line more.
@@ -45,11 +46,7 @@ pub(crate) fn draw_all<F: Feed>(watch: &mut Watch, feed: &mut F, draws: u32) -> 
         falses: 0,
         joins: 0,
     };
-    let nowhere = Point {
-        stamp: 0,
-        offset: 0,
-    };
-    let mut tray = [Line::True(nowhere); TRAY];
+    let mut tray = [Line::True(Point::default()); TRAY];
     for _k in 0..draws {
         if let Ok(given) = watch.draw(feed, &mut tray) {
             tally.add_all(&tray[0..given]);

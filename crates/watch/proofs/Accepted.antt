@@ -1,5 +1,5 @@
 -- A sample that is accepted, or turned away because too many points would be held.
-use Rattle.std.proofs.Common.{◌≡◌, ℕ, ◌<◌, ◌≤◌, cond, List, [], ◌∷◌, ◌++◌, length, take, Ok, refl, ap, ◌∙◌, ap₂, arith}
+use Rattle.std.proofs.Common.{◌≡◌, ℕ, ◌<◌, ◌≤◌, cond, List, [], ◌∷◌, ◌++◌, length, take, Ok, ap, ◌∙◌, ap₂}
 use Rattle.std.proofs.lemmas.Bool.{le-leb, lt-leb}
 use Rattle.truth.specs.declared.table.Condition.{Condition}
 use Rattle.feed.specs.Lists.{onto}
@@ -16,10 +16,6 @@ use Rattle.watch.specs.declared.watch.Watch.{Watch}
 use Rattle.watch.specs.States.{state, with_held}
 use Rattle.watch.specs.Treatments.{untreated}
 use Rattle.watch.proofs.Filling.{values_front, becomes_front}
-
-pub no_elements : {X : Type 0} (xs : List X) → length xs ≡ 0 → xs ≡ []
-no_elements [] e = refl
-no_elements (x ∷ xs) e = absurd (omega arith)
 
 module _ (st : State) (es : List Entry) (place : ℕ) (s : Sample) where
   abbrev now : Treated

@@ -11,12 +11,13 @@ ghost use Rattle.logic.specs.declared.verdict.HeldPoint.{HeldPoint};
 ghost use Rattle.watch.specs.States.{conditions, counted, state, with_held};
 
 use crate::arrival::Arrival;
-use crate::fill::{among, fill};
+use crate::fill::fill;
 use crate::fronts::put_front;
 use crate::naming::gap_from;
 use crate::treating::treat_with;
 use crate::watch::Watch;
 use feed::Sample;
+use instant::last_value;
 use logic::{HeldPoint, Line, Point};
 use rule::Rule;
 use truth::Condition;
@@ -45,8 +46,7 @@ fn ruled(rule: &Rule, values: &[Condition]) -> Condition
     requires { components (records rule.now) ≤ length values.now }
     ensures { result ≡ ruled (records rule.now) (take (components (records rule.now)) values.now) }
 {
-    let n = rule.components();
-    among(&values[..n], rule.first_component(rule.len() - 1))
+    last_value(rule, &values[..rule.components()])
 }
 
 impl Watch {

@@ -11,7 +11,7 @@ use feed::Entry;
 use logic::{DrawRefusal, Line};
 
 impl Watch {
-    // The questions of an entry that was drawn. Nothing is counted yet.
+    // Asks the questions of an entry that was drawn, and accepts its sample as a new point. Nothing is counted yet.
     fn judge(&mut self, entry: Entry, tray: &mut [Line]) -> Result<usize, DrawRefusal>
         requires { self.old.count < length tray.old }
         ensures answer { (es : List Entry) → result ≡ (drawn_content (state self.old) es entry.place entry.content).answer }

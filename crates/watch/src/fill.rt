@@ -30,7 +30,10 @@ impl Filling<'_> {
     fn argument(&self, which: Option<u8>, values: &[Condition]) -> Condition
         ensures { result ≡ at_shift_or (λ a. among values.now (first_component (records self.now.rule.now) a)) openly.never which }
     {
-        value_or_never(values, which.map(|a| self.rule.first_component(a as usize)))
+        value_or_never(
+            values,
+            which.map(|a| self.rule.first_component(usize::from(a))),
+        )
     }
 
     // The condition of a component at the point before, carried to the new point; never where there is none.
@@ -48,7 +51,7 @@ impl Filling<'_> {
         ensures { result ≡ given (records self.now.rule.now) self.now.arrival.now.gap self.now.before.now becomes.now j shift }
     {
         if self.rule.record(j).looks_ahead() {
-            return Condition::wait(self.rule.first_wait(j) + shift as usize);
+            return Condition::wait(self.rule.first_wait(j) + usize::from(shift));
         }
         self.brought(
             self.rule.earlier_component(j, shift, self.arrival.gap),
@@ -112,11 +115,11 @@ impl Filling<'_> {
         let minutes = self.arrival.gap?;
         match self.rule.record(j) {
             Record::Next(interval, a) if interval.contains(minutes) => {
-                Some(self.rule.first_component(a as usize))
+                Some(self.rule.first_component(usize::from(a)))
             }
             Record::Until(interval, _, _) => {
                 let to = interval.moved(shift, minutes)?;
-                Some(self.rule.first_component(j) + to as usize)
+                Some(self.rule.first_component(j) + usize::from(to))
             }
             _ => None,
         }
@@ -142,13 +145,6 @@ impl Filling<'_> {
         let (_, rest) = becomes.split_at_mut(self.rule.first_wait(j));
         self.renew_shifts(j, values, &mut rest[..waits]);
     }
-}
-
-// The condition of a component among some; never where there are fewer.
-pub(crate) fn among(values: &[Condition], component: usize) -> Condition
-    ensures { result ≡ among values.now component }
-{
-    value_or_never(values, Some(component))
 }
 
 // Fills in the conditions of all components at the new point, and what the waits become there.

@@ -20,12 +20,8 @@ impl Watch {
         ensures { state result ≡ fitted (True ∷ []) 1 }
     {
         let never = Condition::never();
-        let point = Point {
-            stamp: 0,
-            offset: 0,
-        };
         let nobody = HeldPoint {
-            point,
+            point: Point::default(),
             condition: never,
         };
         Watch {

@@ -21,11 +21,7 @@ impl Watch {
     {
         match call {
             Call::Draw(size) => {
-                let nowhere = Point {
-                    stamp: 0,
-                    offset: 0,
-                };
-                let mut tray = [Line::True(nowhere); MOST_TREATED];
+                let mut tray = [Line::True(Point::default()); MOST_TREATED];
                 let n = size.min(MOST_TREATED);
                 Answer::Draw(self.draw(feed, &mut tray[..n]))
             }

@@ -7,11 +7,6 @@ use std::process::Abort;
 // True until, within a minute, letter 0.
 const WITHIN_A_MINUTE: [u8; 15] = [0, 0, 0, 0, 0, 1, 0, 0, 0, 0, 8, 0, 1, 0, 1];
 
-const NOWHERE: Point = Point {
-    stamp: 0,
-    offset: 0,
-};
-
 // The number of lines of each draw, or the number of a refusal.
 fn plays(
     rt: &impl Abort,
@@ -35,7 +30,7 @@ fn within_a_minute(rt: HostRuntime) {
         10, 0, 0, 0, 0, 0, 10, 0, 0, 0, 0, 0, 11, 0, 0, 0, 0, 0, 11, 0, 0, 0, 1, 0, 9, 0, 0, 0, 0,
         0, 13, 0, 0, 0, 0, 0, 14,
     ];
-    let mut tray = [Line::True(NOWHERE); 129];
+    let mut tray = [Line::True(Point::default()); 129];
     plays(
         &rt,
         &mut watch,
@@ -60,9 +55,9 @@ fn one_slot_and_short_trays(rt: HostRuntime) {
     let mut watch = Watch::new();
     assert!(rt; watch.fit(&WITHIN_A_MINUTE, 1).is_ok());
     let card = [10, 0, 0, 0, 0, 0, 11, 0, 0, 0, 0, 0, 12, 0, 0, 0, 1, 0];
-    let mut tray = [Line::True(NOWHERE); 2];
+    let mut tray = [Line::True(Point::default()); 2];
     plays(&rt, &mut watch, &card, &[Ok(0), Err(27)], &mut tray);
-    let mut short = [Line::True(NOWHERE); 1];
+    let mut short = [Line::True(Point::default()); 1];
     plays(&rt, &mut watch, &card, &[Err(22)], &mut short);
     plays(&rt, &mut watch, &card[12..], &[Ok(2), Err(23)], &mut tray);
     assert!(rt; matches!(tray[0], Line::False(_)) && matches!(tray[1], Line::True(_)));

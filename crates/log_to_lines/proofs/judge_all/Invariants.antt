@@ -1,3 +1,4 @@
+-- As many entries are left as the feed has still to give.
 use Rattle.std.proofs.Common.{length}
 use Rattle.feed.specs.RecordFeeds.{to_come}
 use Rattle.log_to_lines.proofs.judge_all.Given as goal

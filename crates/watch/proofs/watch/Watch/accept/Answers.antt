@@ -11,7 +11,8 @@ use Rattle.logic.specs.declared.verdict.Point.{Point}
 use Rattle.logic.specs.States.{State}
 use Rattle.logic.specs.Draws.{Drawn, filled_at, next_name, treatment}
 use Rattle.watch.specs.States.{state, with_held}
-use Rattle.watch.proofs.Accepted.{no_elements, sampled_full, sampled_held}
+use Rattle.std.proofs.lemmas.List.{nil_from_length}
+use Rattle.watch.proofs.Accepted.{sampled_full, sampled_held}
 use Rattle.watch.proofs.watch.Watch.accept.Goals as goal
 
 pub returns-then-kept-self : goal.returns-then-kept-self
@@ -34,7 +35,7 @@ returns-then-kept-self c =
     let same-length = ap length c.treat_sample-kept.ensures.held in
     let many = length-take-le r v.held (omega arith) in
     let full : n ≡ w.slots = omega arith in
-    let silent : T.lines ≡ [] = no_elements T.lines (omega arith) in
+    let silent : T.lines ≡ [] = nil_from_length T.lines (omega arith) in
     let back : take v.count c.put_front.new.to ≡ take n w.held =
     ap (λ k. take k c.put_front.new.to) c.treat_sample-kept.ensures.count ∙ ap (take n) c.put_front.ensures
     ∙ take_onto (take n v.saved) v.held n (length-take-le n v.saved (omega arith)) ∙ c.treat_sample-kept.ensures.saved full in

@@ -18,7 +18,7 @@ pub returns-in-Draw : goal.returns-in-Draw
 returns-in-Draw g c =
     let st = state c.args.self.now in
     let es = g.F.Feed.entries c.args.feed.now in
-    let nowhere : Line = True (record { stamp = 0; offset = 0 }) in
+    let nowhere : Line = True c.default.result in
     let size = part_length nowhere c.in-Draw.size c.min-n.result c.min-n.ensures in
     record {
       answer = ap Draw (c.draw.ensures.answer ∙ ap (λ n. draw_answer st es n) size) ∙ sym (ap (λ (x : Call). answer_to st es x) c.in-Draw.is);
