@@ -11,10 +11,10 @@ use truth::Truth;
 pub fn value_or_never<T: Truth + Copy>(values: &[T], place: Option<usize>) -> T
     ensures { result ≡ before T.Truth.ops values.now place }
 {
-    match place.and_then(|at| values.get(at)) {
-        Some(value) => *value,
-        None => T::never(),
-    }
+    place
+        .and_then(|at| values.get(at))
+        .copied()
+        .unwrap_or(T::never())
 }
 
 // A since or an until at a shift: right, if the interval has begun, or left and what lies across the gap.

@@ -4,22 +4,22 @@
 
 use anyhow::Context;
 use feed::{Feed, Minute, Pattern, Shift};
+use lines::Report;
 use logic::{DrawRefusal, Line, Point};
 use printing::{put_counts, put_draw, put_held};
-use rule::MOST_SLOTS;
 use std::env::Args;
 use std::io::Write;
 use std::iter::Skip;
 use std::num::ParseIntError;
 use std::str::FromStr;
 use std::{env, fs};
-use watch::Watch;
+use watch::{MOST_TREATED, Watch};
 
 // The pattern under the two layers.
 type Pile = Shift<Minute<Pattern>>;
 
 // Draws go to trays of so many lines, in turn: the first has room for any draw, the last only where no point is held.
-const TRAYS: [usize; 3] = [MOST_SLOTS + 1, 4, 1];
+const TRAYS: [usize; 3] = [MOST_TREATED, 4, 1];
 
 // After so many draws the watch is read out, and again.
 const READ_OUT: u32 = 16;
@@ -114,7 +114,7 @@ fn run(rt: &HostRuntime) -> anyhow::Result<()> {
     }
     let mut watch = Watch::new();
     if let Err(refusal) = watch.fit(&fs::read(rt, "rule.bin")?, setting.slots) {
-        println!(rt; "rule refused {}", refusal.number())?;
+        println!(rt; "{}", Report::from(refusal))?;
         return Ok(());
     }
     let mut pile = Shift::new(Minute::new(pattern), setting.shift);

@@ -14,20 +14,17 @@ use lines::Report;
 use logic::{Line, Point};
 use rule::MOST_SLOTS;
 use std::alloc::{AllocError, Global};
-use watch::Watch;
+use watch::{MOST_TREATED, Watch};
 
 // A card has no more bytes: ten thousand records of six.
 pub const MOST_CARD_BYTES: usize = 10_000 * 6;
-
-// A tray of so many lines has room for those of any draw: for all held points and the new one.
-const TRAY_LINES: usize = MOST_SLOTS + 1;
 
 // Draws each entry of a card, and puts what it brings behind a text; then the held points and the counts.
 fn put_card(out: &mut Vec<u8>, watch: &mut Watch, card: &[u8]) -> Result<(), AllocError>
     requires { (state watch.old).drawn + length (entries_of card.now) ≤ 10000 }
     ensures { OnOk result (out.new.items ≡ out.old.items ++ printed (card_reports (state watch.old) (entries_of card.now))) }
 {
-    let mut tray = [Line::True(Point::default()); TRAY_LINES];
+    let mut tray = [Line::True(Point::default()); MOST_TREATED];
     let mut feed = RecordFeed::new(card);
     while feed.has_entry() {
         put_draw(out, watch, &mut feed, &mut tray)?;

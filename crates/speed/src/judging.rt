@@ -6,11 +6,7 @@ ghost use Rattle.speed.specs.Tallies.{counted, course, none, size, tallied};
 use crate::tally::Tally;
 use feed::Feed;
 use logic::{Line, Point};
-use rule::MOST_SLOTS;
-use watch::Watch;
-
-// A tray of this length has room for the lines of any draw.
-const TRAY: usize = MOST_SLOTS + 1;
+use watch::{MOST_TREATED, Watch};
 
 impl Tally {
     // One line more.
@@ -46,7 +42,7 @@ pub(crate) fn draw_all<F: Feed>(watch: &mut Watch, feed: &mut F, draws: u32) -> 
         falses: 0,
         joins: 0,
     };
-    let mut tray = [Line::True(Point::default()); TRAY];
+    let mut tray = [Line::True(Point::default()); MOST_TREATED];
     for _k in 0..draws {
         if let Ok(given) = watch.draw(feed, &mut tray) {
             tally.add_all(&tray[0..given]);

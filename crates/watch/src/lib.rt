@@ -18,7 +18,7 @@ mod treating;
 mod watch;
 
 pub use call::{Answer, Call};
-pub use watch::Watch;
+pub use watch::{MOST_TREATED, Watch};
 
 #[cfg(test)]
 mod tests;

@@ -1,5 +1,5 @@
 // The watch on examples.
-use crate::{Answer, Call, Watch};
+use crate::{Answer, Call, MOST_TREATED, Watch};
 use feed::{Feed, RecordFeed};
 use logic::{DrawRefusal, Line, Point};
 use std::process::Abort;
@@ -30,7 +30,7 @@ fn within_a_minute(rt: HostRuntime) {
         10, 0, 0, 0, 0, 0, 10, 0, 0, 0, 0, 0, 11, 0, 0, 0, 0, 0, 11, 0, 0, 0, 1, 0, 9, 0, 0, 0, 0,
         0, 13, 0, 0, 0, 0, 0, 14,
     ];
-    let mut tray = [Line::True(Point::default()); 129];
+    let mut tray = [Line::True(Point::default()); MOST_TREATED];
     plays(
         &rt,
         &mut watch,

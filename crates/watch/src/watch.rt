@@ -9,8 +9,8 @@ use logic::{HeldPoint, Point};
 use rule::{MOST_COMPONENTS, MOST_SLOTS, MOST_WAITS, Rule};
 use truth::Condition;
 
-// A draw treats the points held before it, and one more.
-pub(crate) const MOST_TREATED: usize = MOST_SLOTS + 1;
+// A draw treats the points held before it, and one more: a tray of so many lines has room for any draw.
+pub const MOST_TREATED: usize = MOST_SLOTS + 1;
 
 // A fitted rule and its number of slots; the counts of entries drawn, accepted and turned away; the newest point, if there is
 // one; the open conditions of all components there; and the table of held points, of which the first `count` are in use.
