@@ -6,6 +6,7 @@ ghost use Rattle.truth.specs.Tables.{openly};
 ghost use Rattle.feed.specs.Lists.{onto};
 ghost use Rattle.rule.specs.Components.{components, first_component, first_wait, waits};
 ghost use Rattle.rule.specs.Reading.{records};
+ghost use Rattle.instant.specs.Step.{before};
 ghost use Rattle.logic.specs.Draws.{among, brought, conditioned, filled, given, lettered, row_values, row_waits};
 ghost use Rattle.logic.specs.Steps.{evaluated, renewed};
 ghost use Rattle.logic.specs.Tables.{row};
@@ -131,7 +132,7 @@ impl Filling<'_> {
         ensures { own.new ≡ map (renewed openly (row (records self.now.rule.now) j) self.now.arrival.now.gap (λ a s. among values.now (first_component (records self.now.rule.now) a + s)) j) (range_with_len 0 (length own.old)) }
     {
         for (s, wait) in own.iter_mut().enumerate() {
-            *wait = value_or_never(values, self.renewed_from(j, s as u8));
+            put_or_never(wait, values, self.renewed_from(j, s as u8));
         }
     }
 
@@ -144,6 +145,17 @@ impl Filling<'_> {
         let waits = usize::from(self.rule.record(j).own_waits());
         let (_, rest) = becomes.split_at_mut(self.rule.first_wait(j));
         self.renew_shifts(j, values, &mut rest[..waits]);
+    }
+}
+
+// Puts the condition at a place among some, or never where there is none. It is put in its place at once, where one that is answered
+// would be copied twice.
+fn put_or_never(to: &mut Condition, values: &[Condition], which: Option<usize>)
+    ensures { to.new ≡ before openly values.now which }
+{
+    match which.and_then(|c| values.get(c)) {
+        Some(value) => *to = *value,
+        None => *to = Condition::never(),
     }
 }
 

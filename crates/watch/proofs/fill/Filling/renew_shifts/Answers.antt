@@ -18,7 +18,7 @@ loop-s-preserved c n l =
     let vs = c.args.values.now in
     let own = c.loop-s.own in
     let i = c.loop-s.s in
-    let is = c.value_or_never.ensures ∙ before_at vs c.renewed_from.result ∙ c.renewed_from.ensures vs in
+    let is = c.put_or_never.ensures ∙ before_at vs c.renewed_from.result ∙ c.renewed_from.ensures vs in
     ap (λ v. get_or (set own i v) n openly.never) is
     ∙ fill_by_more (renewed openly (row rs c.args.j) s.arrival.now.gap (λ a m. among vs (first_component rs a + m)) c.args.j) own i openly.never (omega arith) c.loop-s.invariant n l
 
