@@ -1,5 +1,7 @@
 -- The newest values of a table's components: how they are filled in, and what each of them is.
-use Rattle.std.proofs.Common.{◌≡◌, ℕ, zero, suc, ◌+◌, ◌-◌, ◌*◌, ◌<◌, ◌≤◌, true, List, [], ◌∷◌, ◌++◌, length, get_or, take, drop, Some, None, Option, sym, refl, ap, ◌∙◌, ap₂, add-one, arith}
+use Rattle.std.proofs.Common.{◌≡◌, ℕ, zero, suc, ◌+◌, ◌-◌, ◌*◌, ◌<◌, ◌≤◌, true, List, [], ◌∷◌, ◌++◌, map, length, get_or, take, drop, Some, None, Option, sym, refl, ap, ◌∙◌, ap₂, add-one, arith}
+use mathlib.Core.Path.{fun_ext}
+use Rattle.std.specs.List.{range_with_len}
 use Rattle.std.proofs.lemmas.List.{length-append, length-take-le, take_more, take_all, get_or_append_left, get_or-append-add}
 use Rattle.std.proofs.lemmas.List.FromFn.{length-map-range_with_len, get_or-map-range_with_len}
 use Rattle.truth.specs.Laws.{Ops}
@@ -8,7 +10,7 @@ use Rattle.rule.specs.declared.record.Record.TheVariants.{True}
 use Rattle.rule.specs.Components.{shifts, first_component, components, left_of, right_of, earlier}
 use Rattle.rule.specs.Records.{allowed, Sound}
 use Rattle.logic.specs.Steps.{evaluated}
-use Rattle.rule.proofs.Numbering.{first_more, first_mono, first_all, first_up, left_earlier, right_earlier}
+use Rattle.rule.proofs.Numbering.{first_more, first_mono, first_all, first_up, left_earlier, right_earlier, earlier_lt}
 use Rattle.instant.specs.Step.{lettered, argument, before, valued, row, filled, newest, kept, is_first, advanced}
 use Rattle.feed.specs.Lists.{onto}
 use Rattle.instant.proofs.Kept.{length_kept}
@@ -19,6 +21,10 @@ module _ {T : Type 0} (k : Ops T) (rs : List Record) (ls : List T) (g : Option �
       → argument k rs vs o ≡ argument k rs us o
   argument_same vs us None e = refl
   argument_same vs us (Some a) e = e a refl
+
+  before_same : (bs cs : List T) (o : Option ℕ) → ((c : ℕ) → o ≡ Some c → get_or bs c k.never ≡ get_or cs c k.never) → before k bs o ≡ before k cs o
+  before_same bs cs None e = refl
+  before_same bs cs (Some c) e = e c refl
 
   -- a value rests on those of earlier records alone
   pub valued_same : (vs us bs : List T) (r : Record) (j n s : ℕ) → allowed j r ≡ true
@@ -62,6 +68,32 @@ module _ {T : Type 0} (k : Ops T) (rs : List Record) (ls : List T) (g : Option �
         let r = get_or rs j True in
         ap (λ U. onto (U ++ row k rs ls g U bs r) (onto V S)) (take_onto V S (first_component rs j) e)
         ∙ onto_onto V (V ++ row k rs ls g V bs r) S (rw (length-append V (row k rs ls g V bs r)) (omega arith))
+
+  -- values at the point before count only at numbers of components
+  module _ (bs cs : List T) (sound : Sound rs) (same : (i : ℕ) → i < components rs → get_or bs i k.never ≡ get_or cs i k.never) where
+    valued_before : (vs : List T) (j s : ℕ) → j < length rs
+        → valued k rs ls g vs bs (get_or rs j True) (first_component rs j) s ≡ valued k rs ls g vs cs (get_or rs j True) (first_component rs j) s
+    valued_before vs j s h =
+        let r = get_or rs j True in
+        ap (evaluated k r s (lettered k ls) (argument k rs vs (left_of r)) (argument k rs vs (right_of r)))
+        (before_same bs cs (earlier rs r (first_component rs j) s g) (λ c q. same c (earlier_lt rs sound j h s c g q)))
+
+    front_before : (j : ℕ) → j ≤ length rs → front bs j ≡ front cs j
+    front_before zero h = refl
+    front_before (suc j) h =
+        let r = get_or rs j True in
+        let V = front cs j in
+        let long : length V ≡ first_component rs j = length_front cs j (omega arith) in
+        let l : j < length rs = omega arith in
+        let all : front bs (j + 1) ≡ front cs (j + 1) =
+        front_more bs j l ∙ ap (λ U. U ++ row k rs ls g U bs r) (front_before j (omega arith))
+        ∙ ap (λ f. V ++ map f (range_with_len 0 (shifts r))) (fun_ext (λ s. ap (λ n. valued k rs ls g V bs r n s) long
+        ∙ valued_before V j s l ∙ ap (λ n. valued k rs ls g V cs r n s) (sym long)))
+        ∙ sym (front_more cs j l) in
+        rw add-one at all
+
+    pub newest_before : newest k rs ls g bs ≡ newest k rs ls g cs
+    newest_before = sym (front_all bs) ∙ front_before (length rs) (omega arith) ∙ front_all cs
 
   pub length_newest : (bs : List T) → length (newest k rs ls g bs) ≡ components rs
   length_newest bs = ap length (sym (front_all bs)) ∙ length_front bs (length rs) (omega arith) ∙ first_all rs

@@ -51,6 +51,12 @@ held_within [] k p e = let z : ◌≡◌ {A = ℕ} 0 1 = cc in absurd (omega ari
 held_within (h ∷ hs) zero p e = omega arith
 held_within (h ∷ hs) (suc k) p e = let m = held_within hs k p e in omega arith
 
+pub held_none : (hs : List HeldPoint) (k : ℕ) → None ≡ name_at hs k → held_reports (drop k hs) ≡ []
+held_none [] zero e = refl
+held_none [] (suc k) e = refl
+held_none (h ∷ hs) zero e = let z : ◌≡◌ {A = ℕ} 0 1 = cc in absurd (omega arith)
+held_none (h ∷ hs) (suc k) e = held_none hs k e
+
 pub held_some : {A : Type 0} (hs : List HeldPoint) (k : ℕ) → k < length hs → None ≡ name_at hs k → A
 held_some [] k l e = absurd (omega arith)
 held_some (h ∷ hs) zero l e = cc

@@ -11,7 +11,7 @@ use Rattle.rule.specs.Components.{waits, components, any_ahead}
 use Rattle.rule.specs.Reading.{Read, read_from, read_table, length_allowed, unless, preceded, asked, watch_questions, instant_questions, TablesSound}
 
 -- a record that passes its questions can stand in a rule
-checked_allowed : (j kind left right low high : ℕ) → Ok tt ≡ checked j kind left right low high → allowed j (record_of kind left right low high) ≡ true
+pub checked_allowed : (j kind left right low high : ℕ) → Ok tt ≡ checked j kind left right low high → allowed j (record_of kind left right low high) ≡ true
 checked_allowed j kind left right low high e = grind (arith, nat_tests)
 
 -- what the first five of some bytes say, and what is asked of them as record j
@@ -21,7 +21,7 @@ record_at xs = record_of (get_or xs 0 0) (get_or xs 1 0) (get_or xs 2 0) (get_or
 abbrev checked_at : ℕ → List ℕ → Result (Unit {0}) RuleRefusal
 checked_at j xs = checked j (get_or xs 0 0) (get_or xs 1 0) (get_or xs 2 0) (get_or xs 3 0) (get_or xs 4 0)
 
-read_more : (j : ℕ) (xs : List ℕ) → 5 ≤ length xs → read_from j xs ≡ unless (checked_at j xs) (preceded (record_at xs ∷ []) (read_from (j + 1) (drop 5 xs)))
+pub read_more : (j : ℕ) (xs : List ℕ) → 5 ≤ length xs → read_from j xs ≡ unless (checked_at j xs) (preceded (record_at xs ∷ []) (read_from (j + 1) (drop 5 xs)))
 read_more j [] h = absurd (omega arith)
 read_more j (a ∷ []) h = absurd (omega arith)
 read_more j (a ∷ b ∷ []) h = absurd (omega arith)
@@ -34,18 +34,23 @@ preceded_twice rs qs (Ok ps) = ap Ok (sym (append_assoc rs qs ps))
 preceded_twice rs qs (Err e) = refl
 
 -- a record that passed goes behind those before it
-pub goes_on : (t : List Record) (n : ℕ) (xs : List ℕ) → n < length t → 5 ≤ length xs → Ok tt ≡ checked_at n xs →
-    preceded (take n t) (read_from n xs) ≡ preceded (take (n + 1) (set t n (record_at xs))) (read_from (n + 1) (drop 5 xs))
-goes_on t n xs few h e =
-    let rs = take n t in
+pub goes_on : (rs : List Record) (j : ℕ) (xs : List ℕ) → 5 ≤ length xs → Ok tt ≡ checked_at j xs →
+    preceded rs (read_from j xs) ≡ preceded (rs ++ record_at xs ∷ []) (read_from (j + 1) (drop 5 xs))
+goes_on rs j xs h e =
     let r = record_at xs in
-    let after = read_from (n + 1) (drop 5 xs) in
-    ap (preceded rs) (read_more n xs h ∙ ap (λ (x : Result (Unit {0}) RuleRefusal). unless x (preceded (r ∷ []) after)) (sym e))
+    let after = read_from (j + 1) (drop 5 xs) in
+    ap (preceded rs) (read_more j xs h ∙ ap (λ (x : Result (Unit {0}) RuleRefusal). unless x (preceded (r ∷ []) after)) (sym e))
     ∙ preceded_twice rs (r ∷ []) after
-    ∙ ap (λ qs. preceded qs after) (sym (take_more_set t n r few))
+
+-- so does one that is written into the table
+pub goes_on_in : (t : List Record) (n : ℕ) (xs : List ℕ) → n < length t → 5 ≤ length xs → Ok tt ≡ checked_at n xs →
+    preceded (take n t) (read_from n xs) ≡ preceded (take (n + 1) (set t n (record_at xs))) (read_from (n + 1) (drop 5 xs))
+goes_on_in t n xs few h e =
+    goes_on (take n t) n xs h e
+    ∙ ap (λ qs. preceded qs (read_from (n + 1) (drop 5 xs))) (sym (take_more_set t n (record_at xs) few))
 
 -- a table of sound records with one more
-sound_push : (rs : List Record) (r : Record) → Sound rs → allowed (length rs) r ≡ true → Sound (rs ++ r ∷ [])
+pub sound_push : (rs : List Record) (r : Record) → Sound rs → allowed (length rs) r ≡ true → Sound (rs ++ r ∷ [])
 sound_push rs r s a j h =
     elim (cases_lt j (length rs)) [
       | inl lt ↦ ap (allowed j) (get_or_append_left rs (r ∷ []) True j lt) ∙ s j lt

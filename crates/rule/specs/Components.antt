@@ -1,5 +1,5 @@
 -- Components and waits of a table, and their numbers.
-use Rattle.std.specs.Prelude.{◌≡◌, ℕ, ◌+◌, Bool, true, false, cond, ◌||◌, List, [], ◌∷◌, take, Some, None, sum_by, Option, slice_index_or}
+use Rattle.std.specs.Prelude.{◌≡◌, ℕ, ◌+◌, Bool, true, false, cond, ◌||◌, List, [], ◌∷◌, length, take, Some, None, sum_by, Option, slice_index_or}
 use Rattle.std.specs.Option.{option_map}
 use Rattle.rule.specs.declared.record.Record.{Record}
 use Rattle.rule.specs.declared.record.Record.TheVariants.{True, Letter, Not, And, Or, Previous, Since, Next, Until}
@@ -86,9 +86,12 @@ abbrev pub any_ahead : List Record → Bool
 any_ahead [] = false
 any_ahead (r ∷ rs) = looks_ahead r || any_ahead rs
 
--- the numbers of the first component or wait of each record, and how many there are, which is the number past the last record
+-- the numbers of the first component or wait of each record, in a table of 32 places, and how many there are, which is the number past the
+-- last record
 abbrev pub Numbered : {C : Type 0} → (Record → ℕ) → List Record → Numbers C → Type 0
-Numbered w rs n = (n.total ≡ sum_by w rs) × ((j : ℕ) → slice_index_or n.first j n.total ≡ sum_by w (take j rs))
+Numbered w rs n =
+    (length n.first ≡ 32) × (n.total ≡ sum_by w rs)
+    × ((j : ℕ) → slice_index_or n.first j n.total ≡ sum_by w (take j rs))
 
 -- the component of the point before that record r at shift s rests on, where r's own first component has the number n and
 -- the gap is g: none at a first point, where the gap does not fit, and at an expired shift

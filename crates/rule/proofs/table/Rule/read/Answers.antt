@@ -1,7 +1,7 @@
 -- What is left to prove of `read`.
 use Rattle.std.proofs.Common.{◌<◌, ◌≤◌, length, ◌∙◌, arith, rules}
 use Rattle.std.proofs.lemmas.List.{take_rest, length-drop, length-set}
-use Rattle.rule.proofs.Readings.{goes_on, sound_more}
+use Rattle.rule.proofs.Readings.{goes_on_in, sound_more}
 use Rattle.rule.proofs.table.Rule.read.Goals as goal
 
 pub loop-rest-preserved : goal.loop-rest-preserved
@@ -16,5 +16,5 @@ loop-rest-preserved c =
       omega (arith, length-drop 5 xs),
       c.loop-rest.invariant.2,
       sound_more t n xs few c.in_ok-check.ensures c.loop-rest.invariant.3,
-      c.loop-rest.invariant.4 ∙ goes_on t n xs few long c.in_ok-check.ensures,
+      c.loop-rest.invariant.4 ∙ goes_on_in t n xs few long c.in_ok-check.ensures,
     )
