@@ -1,10 +1,14 @@
 // Judges a card by a rule: reads the file rule.bin and the card on standard input, and prints a line for each outcome.
 #![tactic(auto)]
 
+ghost use Rattle.std.specs.Prelude.{OnOk};
+ghost use Rattle.std.specs.Io.KnownBytes.{Appends};
+ghost use Rattle.lines.specs.Reports.{line_bytes};
+
 mod session;
 
 use feed::{Feed, RecordFeed};
-use lines::Report;
+use lines::{Report, TRAY, write_report};
 use rule::{MOST_RECORDS, RECORD_BYTES};
 use session::{MOST_LOG_BYTES, Session};
 use std::alloc::Global;
@@ -31,9 +35,18 @@ fn read_rule(rt: &HostRuntime) -> io::Result<Vec<u8>> {
     }
 }
 
+// Puts the line of a report, its text and a byte 10, behind what a writer holds.
+fn put_report<W: Write>(out: &mut W, report: Report) -> io::Result<()>
+    ensures { OnOk result (Appends (W.Write.contents out.old) (W.Write.contents out.new) (line_bytes report)) }
+{
+    let mut tray = [0; TRAY];
+    let len = write_report(report, &mut tray);
+    out.write_all(&tray[..len])
+}
+
 // Prints the line of a report.
 fn print_report(rt: &HostRuntime, report: Report) -> io::Result<()> {
-    println!(rt; "{report}")
+    put_report(&mut rt.stdout(), report)
 }
 
 // Judges each entry, and prints the counts.
