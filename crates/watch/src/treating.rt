@@ -1,7 +1,8 @@
 // A draw treats points in turn: each is settled, joined to one that is held, or held.
-ghost use Rattle.std.specs.Prelude.{◌≡◌, ◌+◌, ◌<◌, ◌≤◌, [], ◌∷◌, ◌++◌, length, take};
+ghost use Rattle.std.specs.Prelude.{◌≡◌, ◌+◌, ◌<◌, ◌≤◌, [], ◌∷◌, ◌++◌, length, take, set, slice_index_or};
 ghost use Rattle.feed.specs.Lists.{onto};
 ghost use Rattle.logic.specs.Draws.{carried_points, found, treated_all};
+ghost use Rattle.logic.specs.declared.verdict.HeldPoint.{HeldPoint};
 ghost use Rattle.watch.specs.Treatments.{untreated, verdict_on};
 
 use crate::carrying::carry_all;
@@ -33,6 +34,18 @@ fn verdict_on(point: &HeldPoint, held: &[HeldPoint]) -> Option<Line>
     })
 }
 
+// Puts the point at a place of a table in another place. Its parts go one by one, each in registers, without a call of `memmove`.
+fn move_point(points: &mut [HeldPoint], from: usize, to: usize)
+    requires from { from < length points.old }
+    requires to { to < length points.old }
+    ensures { (d : HeldPoint) → points.new ≡ set points.old to (slice_index_or points.old from d) }
+{
+    let HeldPoint { point, condition } = points[from];
+    let place = &mut points[to];
+    place.point = point;
+    place.condition = condition;
+}
+
 // Treats points in turn, and answers how many stay held. Those go to the front of the points, and the lines of the others to
 // the front of the tray. All is done in place, since a table of conditions is too big to be copied.
 fn treat_all(points: &mut [HeldPoint], tray: &mut [Line]) -> usize
@@ -46,7 +59,7 @@ fn treat_all(points: &mut [HeldPoint], tray: &mut [Line]) -> usize
         match verdict_on(&points[i], &points[0..count]) {
             Some(line) => tray[i - count] = line,
             None => {
-                points[count] = points[i];
+                move_point(points, i, count);
                 count += 1;
             }
         }

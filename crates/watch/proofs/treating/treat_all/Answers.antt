@@ -1,7 +1,6 @@
 -- One point more, and all of them.
-use Rattle.std.proofs.Common.{◌≡◌, ◌+◌, ◌-◌, ◌<◌, length, take, set, Some, None, Option, sym, ap, ◌∙◌, ap₂, arith}
+use Rattle.std.proofs.Common.{◌≡◌, ◌+◌, ◌-◌, ◌<◌, length, take, Some, None, Option, sym, ap, ◌∙◌, ap₂, arith}
 use native.Mathlib.Nat.{sub-zero}
-use Rattle.std.proofs.lemmas.List.{get_or_read}
 use Rattle.feed.specs.Lists.{onto}
 use Rattle.logic.specs.declared.verdict.Line.{Line}
 use Rattle.logic.specs.declared.verdict.HeldPoint.{HeldPoint}
@@ -32,7 +31,7 @@ loop-i-preserved c =
       | in-Some w ↦ progress_as xs S (i + 1) _ _ _ _ _ _ (said_on xs S i P R n p lt room d w.in-Some.line (let e : Some w.in-Some.line ≡ verdict_on (take (n - 0) P) d = w.in-Some.ensures in e ∙ whole))
           w.points-is w.tray-is w.count-is
       | in-None w ↦ progress_as xs S (i + 1) _ _ _ _ _ _ (held_on xs S i P R n p lt room d (let e : ◌≡◌ {A = Option Line} None (verdict_on (take (n - 0) P) d) = w.in-None.ensures in e ∙ whole))
-          (w.points-is ∙ ap (set P n) (get_or_read P i w.index-points-i-in-None.result (omega arith) w.index-points-i-in-None.is d)) w.tray-is w.count-is
+          (w.points-is ∙ w.move_point.ensures d) w.tray-is w.count-is
     ]
 
 pub returns : goal.returns
